@@ -1,0 +1,3 @@
+-- Laws of the calls.
+pub mod Tests
+pub mod Refusals

@@ -1,0 +1,34 @@
+-- What a call is given: a block problem, how to compile it, and a record, each number in a type that can exceed its limit.
+use mathlib.Core.List.{List, [], _∷_}
+use Prim.Native.Nat.{ℕ}
+use lib.IntN.{ℤ}
+use Rattle.words.specs.I64.{word}
+use Rattle.knapsack.specs.Items.{Item}
+use Rattle.diagram.specs.Record.{Record}
+use Rattle.diagram.specs.Run.{Mode}
+use Rattle.diagram.specs.After4.{CutsetKind}
+
+-- Weights and profits as two lists, the page capacity and the width.
+pub record Problem : Type 0 where
+  pub weights : List ℕ
+  pub profits : List ℕ
+  pub page : ℕ
+  pub width : ℕ
+
+-- A record as it is handed in: value and bound are i64, the path is bytes of any number.
+pub record Given : Type 0 where
+  pub capacity : ℕ
+  pub value : ℤ
+  pub bound : ℤ
+  pub depth : ℕ
+  pub path : List ℕ
+
+-- 'Item d, in given order': weights and profits side by side, as far as both go.
+unfoldable pub itemsOf : List ℕ → List ℕ → List Item
+itemsOf [] ps = []
+itemsOf (w ∷ ws) [] = []
+itemsOf (w ∷ ws) (p ∷ ps) = record { weight = w; profit = p } ∷ itemsOf ws ps
+
+-- the record that the diagram starts from: its i64 numbers as words
+unfoldable pub recordOf : Given → Record
+recordOf g = record { capacity = g .capacity; value = word (g .value); bound = word (g .bound); depth = g .depth; path = g .path }

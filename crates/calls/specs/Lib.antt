@@ -1,0 +1,6 @@
+-- The public calls of document 01.
+pub mod Asked
+pub mod Rows
+pub mod Table
+pub mod Refusals
+pub mod Compile

@@ -1,0 +1,1 @@
+// What each public call answers and leaves in the lent tables, refusals included: definitions (specs/) and their laws (proofs/).

@@ -1,0 +1,4 @@
+-- What is computed from the definitions.
+pub mod Computing
+pub mod Starred
+pub mod Traps

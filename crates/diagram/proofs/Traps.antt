@@ -1,0 +1,16 @@
+-- Each trap is told apart: computed from the definitions.
+use mathlib.Core.Path.{refl}
+use Rattle.diagram.specs.Traps.{answers, Answers, tables, Tables, stops, Stops}
+use Rattle.diagram.proofs.Computing.{computing}
+
+pub answers-right : Answers
+unfolding computing answers
+answers-right = refl
+
+pub tables-right : Tables
+unfolding computing tables
+tables-right = refl
+
+pub stops-right : Stops
+unfolding computing stops
+stops-right = refl

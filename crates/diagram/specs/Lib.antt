@@ -1,0 +1,20 @@
+-- Document 01's diagram: a file a paragraph, in the document's order.
+pub mod Record
+pub mod Node
+pub mod Tables
+pub mod Run
+pub mod Rule1
+pub mod Rule2
+pub mod Rule3
+pub mod Rule4
+pub mod Rule5
+pub mod Rule6
+pub mod After1
+pub mod After2
+pub mod After3
+pub mod After4
+pub mod After5
+pub mod After6
+pub mod Figures
+pub mod Starred
+pub mod Traps

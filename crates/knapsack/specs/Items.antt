@@ -1,0 +1,29 @@
+-- The blocks to choose from, as items with a weight and a profit, and the bytes that decisions on them are written as.
+use Prim.Native.Nat.{ℕ, _+_, _*_, _/_, _%_}
+use mathlib.Core.Bool.{Bool}
+use lib.Dec.{eqb}
+
+-- Document 01, "The block problem", "Weights, profits and every capacity start at 0": an item, which is item d by its place d in a list.
+pub record Item : Type 0 where
+  pub weight : ℕ
+  pub profit : ℕ
+
+-- Document 01, "The block problem", "A weight is the block's own byte length": every use of a weight goes through this one name.
+unfoldable pub counted : ℕ → ℕ
+counted w = w
+
+-- Document 01, "The block problem", "A decision is one byte: 2 × item + 1 for take": the byte that takes item d.
+unfoldable pub takes : ℕ → ℕ
+takes d = 2 * d + 1
+
+-- Document 01, "The block problem", "2 × item for skip": the byte that skips item d.
+unfoldable pub skips : ℕ → ℕ
+skips d = 2 * d
+
+-- Document 01, "The block problem", "A decision is one byte": the item that byte b decides.
+unfoldable pub itemOf : ℕ → ℕ
+itemOf b = b / 2
+
+-- Document 01, "The block problem", "Its value in the Rust is 1 for take, 0 for skip": whether byte b takes its item.
+unfoldable pub isTake : ℕ → Bool
+isTake b = eqb (b % 2) 1

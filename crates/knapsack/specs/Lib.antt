@@ -1,0 +1,5 @@
+-- The definitions of `knapsack`: items and decisions, the public 0/1 knapsack, the best completion, the fast bound.
+pub mod Items
+pub mod Knapsack
+pub mod Best
+pub mod FastBound

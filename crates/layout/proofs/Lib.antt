@@ -1,0 +1,3 @@
+-- Laws of the layout.
+pub mod Rows
+pub mod Records

@@ -1,0 +1,4 @@
+-- The words of a table's rows.
+pub mod Table
+pub mod Rows
+pub mod Records

@@ -1,0 +1,2 @@
+-- The laws of `words`.
+pub mod Laws
