@@ -1,11 +1,11 @@
 -- The call `compile`: its answer, and the node table, edge table and record list after it, for every input and every old content.
 use mathlib.Core.Bool.{Bool, true, false}
-use mathlib.Core.List.{List, [], _∷_, _++_, reverse}
+use mathlib.Core.List.{List, [], reverse}
 use mathlib.Core.Option.{Option, none, some}
 use Prim.Native.Nat.{ℕ, _/_}
 use lib.Dec.{leb}
 use lib.IntN.{ℤ}
-use lib.ListN.{length, drop}
+use lib.ListN.{length}
 use Rattle.words.specs.I64.{word, number}
 use Rattle.diagram.specs.Record.{Record, padded}
 use Rattle.diagram.specs.Node.{nodeAt}
@@ -14,6 +14,7 @@ use Rattle.diagram.specs.Run.{Mode, Settings}
 use Rattle.diagram.specs.After3.{pathTo}
 use Rattle.diagram.specs.After4.{CutsetKind}
 use Rattle.diagram.specs.After6.{Outcome, drained, Answer as Ran, refused as stoppedAt, finished, run}
+use Rattle.layout.specs.Table.{over}
 use Rattle.layout.specs.Rows.{nodeWords, edgeWords, nodeTable, edgeTable}
 use Rattle.layout.specs.Records.{recordWords, recordTable}
 use Rattle.calls.specs.Asked.{Problem, Given, itemsOf, recordOf}
@@ -122,15 +123,12 @@ unless none e = e
 unfoldable pub compileEffect : Request → Rooms → Effect
 compileEffect q m = unless (compileRefusal (q .problem) (q .given)) (effectOf (q .given .path) (m .records) (runOf q m))
 
--- words written from a table's start on; 'Rows and list places beyond a run's own stay unchanged'
-unfoldable pub over : List ℕ → List ℕ → List ℕ
-over ws old = ws ++ drop (length ws) old
-
 -- The answer with what is then in the lent tables.
 pub record After : Type 0 where
   pub answer : Answer
   pub lent : Lent
 
+-- 'Rows and list places beyond a run's own stay unchanged'
 unfoldable pub after : Effect → Lent → After
 after e l =
     record {

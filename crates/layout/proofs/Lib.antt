@@ -1,3 +1,4 @@
 -- Laws of the layout.
+pub mod Table
 pub mod Rows
 pub mod Records

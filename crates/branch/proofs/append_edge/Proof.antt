@@ -1,0 +1,73 @@
+use mathlib.Core.Path.{refl}
+use native.Mathlib.Omega.{arith}
+use Rattle.branch.proofs.Branches.{appended}
+use borrow.Author.Needs.{needs}
+use Rattle.branch.proofs.append_edge.Statement.{statement}
+use Rattle.branch.proofs.append_edge.Tie as tie
+use Rattle.branch.proofs.append_edge.Reads as reads
+use Rattle.branch.proofs.append_edge.Lts as lts
+use Rattle.branch.proofs.add_edge.Reads as add-edge-reads
+use Rattle.branch.proofs.handed_over.Reads as handed-over-reads
+use Rattle.rows.proofs.read_node.Reads as read-node-reads
+
+-- src/lib.rt:268:9
+read-node-requires : tie.Need-read-node-requires
+read-node-requires c κs = search needs
+
+-- src/lib.rt:269:9
+handed-over-requires : tie.Need-handed-over-requires
+handed-over-requires c κs = search needs
+
+-- src/lib.rt:271:16
+mul-tail : tie.Need-mul-tail
+mul-tail c = search needs
+
+-- src/lib.rt:272:14
+mul-add-edge : tie.Need-mul-add-edge
+mul-add-edge c = search needs
+
+-- src/lib.rt:272:14
+sub-add-edge : tie.Need-sub-add-edge
+sub-add-edge c = search needs
+
+-- src/lib.rt:272:14
+part-add-edge-start : tie.Need-part-add-edge-start
+part-add-edge-start c = search needs
+
+-- src/lib.rt:272:14
+part-add-edge-end : tie.Need-part-add-edge-end
+part-add-edge-end c = search needs
+
+-- src/lib.rt:272:5
+add-edge-requires : tie.Need-add-edge-requires
+add-edge-requires c κs = search needs
+
+-- src/lib.rt:262:1
+same-length : tie.Need-same-length
+same-length c = search needs
+
+-- src/lib.rt:262:1
+same-length-2 : tie.Need-same-length-2
+same-length-2 c = search needs
+
+-- src/lib.rt:262:1
+returns : tie.Need-returns
+returns c =
+    let s = c .before .before .before .before .before .before .before .before .before .before .before .before in
+    appended _ _ _ _ _ _ _ _ _ _ _ _ _ _ (s .pre .1 .0) (s .pre .1 .1) (omega (arith, s .pre .0 .start-low, s .pre .0 .rows-in)) (c .before .before .before .before .before .before .before .before .read-node .ensures) (c .before .before .before .before .before .before .before .handed-over .ensures) (c .before .before .before .before .add-edge .ensures) refl
+
+pub append-edge-spec : {M : Type 1} → statement M
+append-edge-spec =
+    tie.close
+    (tie.spec
+    read-node-requires
+    handed-over-requires
+    mul-tail
+    mul-add-edge
+    sub-add-edge
+    part-add-edge-start
+    part-add-edge-end
+    add-edge-requires
+    same-length
+    same-length-2
+    returns)

@@ -1,0 +1,2 @@
+-- What branching promises.
+pub mod State

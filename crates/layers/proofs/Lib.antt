@@ -1,0 +1,2 @@
+-- Laws of stored layers.
+pub mod Stored

@@ -1,0 +1,42 @@
+use lib.ListN.{length-set}
+use mathlib.Core.Path.{refl}
+use native.Mathlib.Numerals.{add-one}
+use native.Mathlib.Omega.{arith}
+use Rattle.layers.specs.Stored.{stored}
+use Rattle.layers.proofs.Stored.{one-more}
+use borrow.Author.Needs.{needs}
+use Rattle.layers.proofs.push.Statement.{statement}
+use Rattle.layers.proofs.push.Tie as tie
+use Rattle.layers.proofs.push.Reads as reads
+use Rattle.layers.proofs.push.Lts as lts
+
+-- src/lib.rt:29:5
+mul-out : tie.Need-mul-out
+mul-out c = search needs
+
+-- src/lib.rt:29:5
+element-write-out : tie.Need-element-write-out
+element-write-out c = search needs
+
+-- src/lib.rt:30:5
+mul-out-2 : tie.Need-mul-out-2
+mul-out-2 c = search needs
+
+-- src/lib.rt:30:5
+element-write-out-2 : tie.Need-element-write-out-2
+element-write-out-2 c = search needs
+
+-- src/lib.rt:31:17
+add-out : tie.Need-add-out
+add-out c = search needs
+
+-- src/lib.rt:23:1
+returns : tie.Need-returns
+unfolding stored
+returns c =
+    let z = c .pre .0 in
+    (record { from-sized = simp length-set (z .from-sized); to-sized = simp length-set (z .to-sized) }, (rw add-one (one-more _ _ _ _ _ (omega (arith, z .from-sized, c .pre .1)) (omega (arith, z .to-sized, c .pre .1))), refl))
+
+pub push-spec : {M : Type 1} → statement M
+push-spec =
+    tie.close (tie.spec mul-out element-write-out mul-out-2 element-write-out-2 add-out returns)

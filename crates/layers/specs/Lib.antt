@@ -1,0 +1,2 @@
+-- What stored layers stand for.
+pub mod Stored

@@ -1,0 +1,2 @@
+-- Laws of the rows' code.
+pub mod Access

@@ -1,0 +1,28 @@
+-- What reading and writing a row promise, of any rows that the table holds and of whatever lies behind them.
+use mathlib.Core.Path.{_≡_}
+use mathlib.Core.List.{List, [], _∷_, _++_}
+use Prim.Native.Nat.{ℕ, suc, _*_, _<_, _≤_}
+use lib.ListN.{length, set}
+use Rattle.diagram.specs.Node.{Node, Edge, nodeAt, edgeAt}
+use Rattle.layout.specs.Table.{over}
+use Rattle.layout.specs.Rows.{nodeWords, edgeWords, nodeTable, edgeTable}
+
+-- table t read at row r gives n
+pub record NodeRead (t : List ℕ) (r : ℕ) (n : Node) : Type 0 where
+  pub is-row : (ns : List Node) (old : List ℕ) → t ≡ over (nodeTable ns) old → r < length ns → n ≡ nodeAt ns r
+
+-- the capacity alone
+pub record CapacityRead (t : List ℕ) (r c : ℕ) : Type 0 where
+  pub is-row : (ns : List Node) (old : List ℕ) → t ≡ over (nodeTable ns) old → r < length ns → c ≡ nodeAt ns r .capacity
+
+pub record EdgeRead (t : List ℕ) (r : ℕ) (e : Edge) : Type 0 where
+  pub is-row : (es : List Edge) (old : List ℕ) → t ≡ over (edgeTable es) old → r < length es → e ≡ edgeAt es r
+
+-- table t becomes u when row r is written: a row that is there is replaced, the next one is appended
+pub record NodeWritten (t : List ℕ) (r : ℕ) (n : Node) (u : List ℕ) : Type 0 where
+  pub replaced : (ns : List Node) (old : List ℕ) → t ≡ over (nodeTable ns) old → r < length ns → u ≡ over (nodeTable (set ns r n)) old
+  pub appended : (ns : List Node) (old : List ℕ) → t ≡ over (nodeTable ns) old → r ≡ length ns → suc r * nodeWords ≤ length old → u ≡ over (nodeTable (ns ++ (n ∷ []))) old
+
+pub record EdgeWritten (t : List ℕ) (r : ℕ) (e : Edge) (u : List ℕ) : Type 0 where
+  pub replaced : (es : List Edge) (old : List ℕ) → t ≡ over (edgeTable es) old → r < length es → u ≡ over (edgeTable (set es r e)) old
+  pub appended : (es : List Edge) (old : List ℕ) → t ≡ over (edgeTable es) old → r ≡ length es → suc r * edgeWords ≤ length old → u ≡ over (edgeTable (es ++ (e ∷ []))) old

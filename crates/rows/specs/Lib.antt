@@ -1,0 +1,3 @@
+-- What the rows' values stand for, and what reading and writing them promise.
+pub mod Values
+pub mod Access

@@ -1,0 +1,1 @@
+// What the diagram's definition promises, proved of the definition alone (proofs/): no code.

@@ -1,0 +1,148 @@
+#!/usr/bin/env python3
+"""check.py [DEMANDS SCOPE]: checks docs/PROMISES.md against the repository. Run it at the repository's top.
+
+Every file that a row cites is there, every name behind it is defined in that file, every must-fail edit, figure and starred
+case that is cited exists, and every must-fail edit is cited somewhere. With the two documents, the demands and document 01,
+it also checks that each quoted sentence stands there, in order, and that nothing of them is left unquoted.
+Ends in 'N rows, M faults'; exit status 1 if there is a fault.
+"""
+import glob
+import os
+import re
+import sys
+
+LEDGER = "docs/PROMISES.md"
+TRAPS = "crates/diagram/specs/Traps.antt"
+STARRED = "crates/diagram/specs/Starred.antt"
+NOTHING = "Text that promises nothing"
+DEFINED = r"(?m)^\s*(?:(?:abbrev|unfoldable|pub|record|data)\s+)*{}(?=[\s:])"
+faults = []
+
+
+def fault(where, what):
+    faults.append(f"{LEDGER}:{where}: {what}")
+
+
+def read(path):
+    with open(path, encoding="utf-8") as f:
+        return f.read()
+
+
+def rows(text):
+    """(line number, heading, cells) of each row of a table of four columns."""
+    heading = ""
+    for number, line in enumerate(text.splitlines(), 1):
+        if line.startswith("## "):
+            heading = line[3:]
+        cells = [c.strip() for c in line.strip("|").split(" | ")]
+        if line.startswith("| ") and cells[0] != "Sentence":
+            if len(cells) != 4:
+                fault(number, f"{len(cells)} cells instead of 4")
+            elif not all(cells):
+                fault(number, "an empty cell")
+            else:
+                yield number, heading, cells
+
+
+def quotes(cell):
+    return re.findall(r'"([^"]+)"', cell)
+
+
+def check_names(number, cell):
+    """A file in backticks, then the names that it defines."""
+    path = None
+    for token in re.findall(r"`([^`]+)`", cell):
+        if re.fullmatch(r"\w+/(specs|proofs)/\w+\.antt", token):
+            path = "crates/" + token
+            if not os.path.isfile(path):
+                fault(number, f"no file {token}")
+                path = None
+        elif "/" in token:
+            if not os.path.exists(token):
+                fault(number, f"no file {token}")
+        elif path is None:
+            fault(number, f"the name {token} has no file before it")
+        elif not re.search(DEFINED.format(re.escape(token)), read(path)):
+            fault(number, f"{token} isn't defined in {path}")
+
+
+def check_tests(number, cell, cited):
+    for quote in quotes(cell):
+        if not re.search(r"(?m)^\s*-- .*" + re.escape(quote), read(TRAPS)):
+            fault(number, f'no figure "{quote}"')
+    cell = re.sub(r'"[^"]+"', "", cell)
+    for letters in re.findall(r"Starred ([A-Z](?:(?:, | to )[A-Z])*)", cell):
+        for letter in re.findall(r"[A-Z]", letters):
+            if not re.search(rf"(?m)^\s*-- {letter}$", read(STARRED)):
+                fault(number, f"no starred case {letter}")
+    for token in re.findall(r"`([^`]+)`", cell):
+        if "/" in token:
+            if not os.path.exists(token):
+                fault(number, f"no file {token}")
+        elif not glob.glob(f"crates/*/must-fail/{token}.edit"):
+            fault(number, f"no must-fail edit {token}")
+        cited.add(token)
+
+
+def plain(text):
+    """Text without line ends, table bars and the marks of lists, headings apart."""
+    text = re.sub(r"(?m)^\|[-|]+\|$", "", text)
+    text = re.sub(r"(?m)^(- |\d+\. |\| \d[\d, ]*\| )", "", text)
+    text = re.sub(r"(?m)^\| | \|$", "", text).replace(" | ", " ")
+    return re.sub(r"\s+", " ", text)
+
+
+def sections(text):
+    """Heading and text of each section of document 01."""
+    parts = re.split(r"(?m)^## (.*)$", text)[1:]
+    return dict(zip(parts[::2], map(plain, parts[1::2])))
+
+
+def check_quotes(table, nothing, documents):
+    """Each section is its quoted sentences, and nothing else but marks."""
+    for heading, text in documents.items():
+        at, left = 0, text
+        quoted = [(n, q) for n, h, cells in table if h == heading for q in quotes(cells[0])]
+        for number, quote in quoted:
+            found = text.find(quote, at)
+            if found < 0:
+                fault(number, f'not in the document, or not in its order: "{quote}"')
+            else:
+                at = found + len(quote)
+                left = left[:found] + "\0" * len(quote) + left[at:]
+        for quote in nothing:
+            left = left.replace(quote, "\0")
+        for rest in re.split("\0+", left):
+            if re.search(r"\w", rest):
+                fault(0, f'{heading}: nothing quotes "{rest.strip()}"')
+
+
+def main(documents):
+    text = read(LEDGER)
+    table, cited = list(rows(text)), set()
+    for number, _, cells in table:
+        check_names(number, cells[1])
+        check_names(number, cells[2])
+        check_tests(number, cells[3], cited)
+    for edit in sorted(glob.glob("crates/*/must-fail/*.edit")):
+        if os.path.basename(edit)[:-5] not in cited:
+            fault(0, f"no row cites the must-fail edit {edit}")
+    if documents:
+        demands, scope = documents
+        known = sections(read(scope))
+        three = re.search(r"(?ms)^1\. Every.*?(?=^Not asked for)", read(demands))
+        known["The three demands"] = plain(three.group())
+        check_quotes(table, quotes(text[text.index(NOTHING):]), known)
+    for line in faults:
+        print(line)
+    contract = [cells[2] for _, _, cells in table]
+    print(f"open in the third column: {sum(c.startswith('open') for c in contract)} whole, "
+          f"{sum('; open' in c for c in contract)} beside a theorem; "
+          f"open in the fourth: {sum(bool(re.match(r'open( |$)', c[3])) for _, _, c in table)} whole, "
+          f"{sum(bool(re.search(r'.[ :]open', c[3])) for _, _, c in table)} in part")
+    print(f"{len(table)} rows, {len(faults)} faults")
+    return 1 if faults else 0
+
+
+if __name__ == "__main__":
+    sys.exit(main(sys.argv[1:]))
