@@ -12,10 +12,14 @@ import re
 import sys
 
 LEDGER = "docs/PROMISES.md"
-TRAPS = "crates/diagram/specs/Traps.antt"
+FIGURES = {
+    "Traps": "crates/diagram/specs/Traps.antt",
+    "Calls": "crates/calls/specs/Figures.antt",
+    "Layout": "crates/layout/specs/Figures.antt",
+}
 STARRED = "crates/diagram/specs/Starred.antt"
 NOTHING = "Text that promises nothing"
-DEFINED = r"(?m)^\s*(?:(?:abbrev|unfoldable|pub|record|data)\s+)*{}(?=[\s:])"
+DEFINED = r"(?m)^\s*(?:(?:abbrev|unfoldable|pub|record|data|fn)\s+)*{}(?=[\s:(])"
 faults = []
 
 
@@ -52,7 +56,7 @@ def check_names(number, cell):
     """A file in backticks, then the names that it defines."""
     path = None
     for token in re.findall(r"`([^`]+)`", cell):
-        if re.fullmatch(r"\w+/(specs|proofs)/\w+\.antt", token):
+        if re.fullmatch(r"\w+/(specs|proofs)/\w+\.antt|\w+/src/lib\.rt", token):
             path = "crates/" + token
             if not os.path.isfile(path):
                 fault(number, f"no file {token}")
@@ -67,9 +71,14 @@ def check_names(number, cell):
 
 
 def check_tests(number, cell, cited):
-    for quote in quotes(cell):
-        if not re.search(r"(?m)^\s*-- .*" + re.escape(quote), read(TRAPS)):
-            fault(number, f'no figure "{quote}"')
+    file = None
+    for word, quote in re.findall(r'\b(Traps|Calls|Layout)\b|"([^"]+)"', cell):
+        if word:
+            file = FIGURES[word]
+        elif file is None:
+            fault(number, f'the figure "{quote}" has no file before it')
+        elif not re.search(r"(?m)^\s*-- .*" + re.escape(quote), read(file)):
+            fault(number, f'no figure "{quote}" in {file}')
     cell = re.sub(r'"[^"]+"', "", cell)
     for letters in re.findall(r"Starred ([A-Z](?:(?:, | to )[A-Z])*)", cell):
         for letter in re.findall(r"[A-Z]", letters):

@@ -4,7 +4,7 @@ use mathlib.Core.Bool.{Bool, true, false}
 use mathlib.Core.List.{List, [], _∷_, _++_, append-nil}
 use Prim.Native.Nat.{ℕ, suc, _+_, _-_, _*_, _<_, _≤_}
 use native.Mathlib.Omega.{arith}
-use lib.ListN.{length, take, drop, length-drop, take-append-drop}
+use lib.ListN.{length, take, drop, length-drop, length-set, length-append, take-append-drop}
 use lib.Dec.{eqb}
 use lib.Seq.{take-all, drop-drop, drop-length, take-set-le, take-append-le}
 use Rattle.words.specs.I64.{mid, satAdd}
@@ -38,6 +38,7 @@ pub add-absent : (first : ℕ) (k : Counts) (rooms : Rooms) (p : Parent) (b : Br
 unfolding branchOn branchTo
 add-absent first k rooms p b cs es f r cs′ es′ l e made =
     record {
+      fits = made .fits;
       does = λ s d oldN oldE st held told deep.
           rw (looked first k rooms (b .capacity) cs es f l s d oldN oldE st held ∙ ap (foundOf first) e) (made .does s d oldN oldE st held told deep);
     }
@@ -46,6 +47,7 @@ pub add-present : (first : ℕ) (k : Counts) (rooms : Rooms) (p : Parent) (b : B
 unfolding branchOn branchTo
 add-present first k rooms p b cs es f row r cs′ es′ l e h added =
     record {
+      fits = added .fits;
       does = λ s d oldN oldE st held told deep.
           rw (looked first k rooms (b .capacity) cs es f l s d oldN oldE st held ∙ ap (foundOf first) e) (added .does s d oldN oldE st held told (omega (arith, ap (λ (c : Counts). c .nodes) (st .counts-are))));
     }
@@ -58,9 +60,10 @@ found-below t count capacity f row l e = subst (λ (g : Found). Below count g) e
 pub record Kept (d e : Diagram) : Type 0 where
   pub start-is : e .start ≡ d .start
   pub front-is : take (d .start) (e .nodes) ≡ take (d .start) (d .nodes)
+  pub longer : length (d .nodes) ≤ length (e .nodes)
 
 kept-all : (d : Diagram) → Kept d d
-kept-all d = record { start-is = refl; front-is = refl }
+kept-all d = record { start-is = refl; front-is = refl; longer = omega arith }
 
 kept-need : (d : Diagram) (b : Bool) (n : ℕ) (r : Run) → Kept d (diagramOf r) → Kept d (diagramOf (need b n d r))
 unfolding need
@@ -78,7 +81,7 @@ lookup-low capacity (n ∷ ns) r c e = go (eqb (n .capacity) capacity) refl (λ 
 
 kept-edge : (s : Settings) (p c decision cost : ℕ) (d : Diagram) → d .start ≤ c → Kept d (diagramOf (addEdge s p c decision cost d))
 unfolding addEdge pushEdge
-kept-edge s p c decision cost d h = kept-need d _ 12 _ (record { start-is = refl; front-is = take-set-le (d .start) (d .nodes) c _ h })
+kept-edge s p c decision cost d h = kept-need d _ 12 _ (record { start-is = refl; front-is = take-set-le (d .start) (d .nodes) c _ h; longer = simp length-set (omega arith) })
 
 kept-child : (s : Settings) (p decision cost capacity : ℕ) (d : Diagram) → d .start ≤ length (d .nodes) → Kept d (diagramOf (newChild s p decision cost capacity d))
 unfolding newChild pushEdge pushNode withNodes
@@ -86,6 +89,7 @@ kept-child s p decision cost capacity d h =
     kept-need d _ 10 _ (kept-need d _ 11 _ (kept-need d _ 12 _ (record {
       start-is = refl;
       front-is = take-set-le (d .start) (d .nodes ++ (childOf p cost capacity (d .nodes) ∷ [])) (length (d .nodes)) _ h ∙ take-append-le (d .start) (d .nodes) (childOf p cost capacity (d .nodes) ∷ []) h;
+      longer = simp (length-set, length-append) (omega arith);
     })))
 
 pub branch-kept : (s : Settings) (p decision cost capacity : ℕ) (d : Diagram) → d .start ≤ length (d .nodes) → Kept d (diagramOf (branchOn s p decision cost capacity d))
@@ -152,6 +156,7 @@ pub branched : (start : ℕ) (k : Counts) (rooms : Rooms) (from : NodeId) (b : B
     → Branched start k rooms (from .0) b ns es r ns′ es′
 branched start k rooms from b ns es parent v r cs′ ns′ es′ h l read ve added back =
     record {
+      fits = added .fits;
       does = λ s d oldN oldE st held deep.
           whole-step (branchOn s (from .0) (b .decision) (b .cost) (b .capacity) d) start k rooms ns es r cs′ ns′ es′ l back s d oldN oldE st held
           (branch-kept s (from .0) (b .decision) (b .cost) (b .capacity) d (st .start-in))
@@ -164,6 +169,7 @@ pub appended : (start : ℕ) (k : Counts) (rooms : Rooms) (from : NodeId) (row :
     → Appended start k rooms (from .0) row b ns es r ns′ es′
 appended start k rooms from row b ns es parent v r cs′ ns′ es′ h i l read ve added back =
     record {
+      fits = added .fits;
       does = λ s d oldN oldE st held.
           whole-step (addEdge s (from .0) (start + row) (b .decision) (b .cost) d) start k rooms ns es r cs′ ns′ es′ l back s d oldN oldE st held
           (kept-edge s (from .0) (start + row) (b .decision) (b .cost) d (omega (arith, st .first-is)))

@@ -22,7 +22,7 @@ use Rattle.branch.specs.declared.Step.{Step}
 use Rattle.branch.specs.declared.Step.the-variants.{Going, Stopped}
 use Rattle.branch.specs.declared.Parent.{Parent}
 use Rattle.branch.specs.declared.Branch.{Branch}
-use Rattle.branch.specs.State.{countsOf, stepOf, diagramOf, ComingHeld, Told, Stands, ComingStepped, ChildMade}
+use Rattle.branch.specs.State.{Fit, countsOf, stepOf, diagramOf, ComingHeld, Told, Stands, ComingStepped, ChildMade}
 
 counted-nodes : (d : Diagram) (k : Counts) → k ≡ countsOf d → k .nodes ≡ length (d .nodes)
 counted-nodes d k e = ap (λ (c : Counts). c .nodes) e
@@ -35,6 +35,7 @@ pub refused-10 : (first : ℕ) (k : Counts) (rooms : Rooms) (p : Parent) (b : Br
 unfolding newChild need
 refused-10 first k rooms p b cs es h =
     record {
+      fits = λ fit. fit;
       does = λ s d oldN oldE st held told deep.
           let n = counted-nodes d k (st .counts-are) in
           let f : ltb (length (d .nodes) - d .start) 1024 ≡ false = le-ltb (length (d .nodes) - d .start) 1024 (omega (arith, st .first-is)) in
@@ -45,6 +46,7 @@ pub refused-11 : (first : ℕ) (k : Counts) (rooms : Rooms) (p : Parent) (b : Br
 unfolding newChild need
 refused-11 first k rooms p b cs es h i =
     record {
+      fits = λ fit. fit;
       does = λ s d oldN oldE st held told deep.
           let n = counted-nodes d k (st .counts-are) in
           let f : ltb (length (d .nodes) - d .start) 1024 ≡ true = lt-ltb (length (d .nodes) - d .start) 1024 (omega (arith, st .first-is)) in
@@ -56,6 +58,7 @@ pub refused-12 : (first : ℕ) (k : Counts) (rooms : Rooms) (p : Parent) (b : Br
 unfolding newChild need
 refused-12 first k rooms p b cs es h i j =
     record {
+      fits = λ fit. fit;
       does = λ s d oldN oldE st held told deep.
           let n = counted-nodes d k (st .counts-are) in
           let m = counted-edges d k (st .counts-are) in
@@ -108,6 +111,7 @@ pub child-made : (first : ℕ) (k : Counts) (rooms : Rooms) (p : Parent) (b : Br
 unfolding newChild need landed childOf
 child-made first k rooms p b cs es x cs′ es′ h i j e we wn =
     record {
+      fits = λ fit. record { low = omega (arith, fit .low); nodes = omega arith; edges = omega arith };
       does = λ s d oldN oldE st held told deep.
           let n = counted-nodes d k (st .counts-are) in
           let m = counted-edges d k (st .counts-are) in

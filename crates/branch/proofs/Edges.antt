@@ -22,13 +22,14 @@ use Rattle.branch.specs.declared.Step.{Step}
 use Rattle.branch.specs.declared.Step.the-variants.{Going, Stopped}
 use Rattle.branch.specs.declared.Parent.{Parent}
 use Rattle.branch.specs.declared.Branch.{Branch}
-use Rattle.branch.specs.State.{countsOf, stepOf, diagramOf, ComingHeld, Told, Stands, ComingStepped, EdgeAdded}
+use Rattle.branch.specs.State.{Fit, countsOf, stepOf, diagramOf, ComingHeld, Told, Stands, ComingStepped, EdgeAdded}
 
 -- no room
 pub edge-refused : (first : ℕ) (k : Counts) (rooms : Rooms) (p : Parent) (row : ℕ) (b : Branch) (cs es : List ℕ) → rooms .edges ≤ k .edges → EdgeAdded first k rooms p row b cs es (Stopped 12 k) cs es
 unfolding addEdge need
 edge-refused first k rooms p row b cs es h =
     record {
+      fits = λ fit. fit;
       does = λ s d oldN oldE st held told in-row.
           let e : length (d .edges) ≡ k .edges = ap (λ (c : Counts). c .edges) (sym (st .counts-are)) in
           let f : ltb (length (d .edges)) (s .edgeRoom) ≡ false = le-ltb (length (d .edges)) (s .edgeRoom) (omega (arith, st .edge-room)) in
@@ -81,6 +82,7 @@ pub edge-added : (first : ℕ) (k : Counts) (rooms : Rooms) (p : Parent) (row : 
     → EdgeAdded first k rooms p row b cs es (Going (record { nodes = k .nodes; edges = k .edges + 1 })) cs′ es′
 edge-added first k rooms p row b cs es child x cs′ es′ h read e we wn =
     record {
+      fits = λ fit. record { low = fit .low; nodes = fit .nodes; edges = omega arith };
       does = λ s d oldN oldE st held told in-row.
           subst (λ (f : ℕ). ComingStepped (addEdge s (p .id .0) (f + row) (b .decision) (b .cost) d) oldN oldE (Going (record { nodes = k .nodes; edges = k .edges + 1 })) cs′ es′) (sym (st .first-is))
           (added-at k p row b cs es child x cs′ es′ s d oldN oldE (st .counts-are) (omega (arith, st .edge-room)) (rw (st .edge-room) (st .old-edges)) held told (omega (arith, st .first-is)) read e

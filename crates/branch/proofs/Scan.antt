@@ -11,7 +11,7 @@ use Rattle.diagram.specs.Tables.{at}
 use Rattle.diagram.specs.Rule4.{lookup}
 use Rattle.layout.specs.Table.{over}
 use Rattle.layout.specs.Rows.{nodeTable}
-use Rattle.rows.specs.Access.{CapacityRead}
+use Rattle.rows.specs.Access.{FieldRead}
 use Rattle.branch.specs.declared.Found.the-variants.{At, Nothing}
 use Rattle.branch.specs.State.{LookedUp}
 
@@ -35,14 +35,14 @@ lookup-hit : (capacity : ℕ) (n : Node) (ns : List Node) (r : ℕ) → n .capac
 unfolding lookup
 lookup-hit capacity n ns r h = rw (eq-eqb (n .capacity) capacity h, lookup)
 
-pub passed-one : (t : List ℕ) (count capacity i c : ℕ) → i < count → CapacityRead t i c → (c ≡ capacity → ⊥) → Passed t count capacity i → Passed t count capacity (i + 1)
+pub passed-one : (t : List ℕ) (count capacity i c : ℕ) → i < count → FieldRead t i (λ x. x .capacity) c → (c ≡ capacity → ⊥) → Passed t count capacity i → Passed t count capacity (i + 1)
 passed-one t count capacity i c h read other p =
     record {
       left = λ ns old first e l.
           let k : i < length ns = omega arith in
           let z : first + (i + 1) ≡ suc (first + i) = omega arith in
           let y : i + 1 ≡ suc i = omega arith in
-          let q : c ≡ nodeAt ns i .capacity = read .is-row ns old e k in
+          let q : c ≡ nodeAt ns i .capacity = read .is-field ns old e k in
           rw (z, y) (sym (turn capacity ns i (first + i) k ∙ lookup-miss capacity (nodeAt ns i) (drop (suc i) ns) (first + i) (λ w. other (q ∙ w))) ∙ p .left ns old first e l);
     }
 
@@ -56,12 +56,12 @@ found-none t count capacity i h p =
       below = tt;
     }
 
-pub found-at : (t : List ℕ) (count capacity i c : ℕ) → i < count → CapacityRead t i c → c ≡ capacity → Passed t count capacity i → LookedUp t count capacity (At i)
+pub found-at : (t : List ℕ) (count capacity i c : ℕ) → i < count → FieldRead t i (λ x. x .capacity) c → c ≡ capacity → Passed t count capacity i → LookedUp t count capacity (At i)
 found-at t count capacity i c h read same p =
     record {
       is-first = λ ns old first e l.
           let k : i < length ns = omega arith in
-          let q : c ≡ nodeAt ns i .capacity = read .is-row ns old e k in
+          let q : c ≡ nodeAt ns i .capacity = read .is-field ns old e k in
           sym (turn capacity ns i (first + i) k ∙ lookup-hit capacity (nodeAt ns i) (drop (suc i) ns) (first + i) (sym q ∙ same)) ∙ p .left ns old first e l;
       below = h;
     }

@@ -58,6 +58,17 @@ pub record Told (d : Diagram) (cost : ℕ) (p : Parent) : Type 0 where
   pub exact-is : p .exact ≡ nodeAt (d .nodes) (p .id .0) .exact
   pub value-is : p .value ≡ handed (d .nodes) (p .id .0) cost
 
+-- The counts are within the rooms, and the coming layer starts at or before the next row.
+pub record Fit (first : ℕ) (k : Counts) (rooms : Rooms) : Type 0 where
+  pub low : first ≤ k .nodes
+  pub nodes : k .nodes ≤ rooms .nodes
+  pub edges : k .edges ≤ rooms .edges
+
+-- so are those of a step, gone on or stopped
+abbrev pub StillFit : ℕ → Rooms → Step → Type 0
+StillFit first rooms (Going k) = Fit first k rooms
+StillFit first rooms (Stopped n k) = Fit first k rooms
+
 -- What the tables' lengths must allow, before any row is touched.
 pub record ComingReady (first : ℕ) (k : Counts) (rooms : Rooms) (cs es : List ℕ) : Type 0 where
   pub first-low : first ≤ k .nodes
@@ -83,14 +94,17 @@ pub record ComingStepped (run : Run) (oldN oldE : List ℕ) (r : Step) (cs es : 
 
 -- One more edge into row `first + row`.
 pub record EdgeAdded (first : ℕ) (k : Counts) (rooms : Rooms) (p : Parent) (row : ℕ) (b : Branch) (cs es : List ℕ) (r : Step) (cs′ es′ : List ℕ) : Type 0 where
+  pub fits : Fit first k rooms → StillFit first rooms r
   pub does : (s : Settings) (d : Diagram) (oldN oldE : List ℕ) → Stands s d oldN oldE first k rooms → ComingHeld d oldN oldE cs es → Told d (b .cost) p → first + row < length (d .nodes) → ComingStepped (addEdge s (p .id .0) (first + row) (b .decision) (b .cost) d) oldN oldE r cs′ es′
 
 -- A new child.
 pub record ChildMade (first : ℕ) (k : Counts) (rooms : Rooms) (p : Parent) (b : Branch) (cs es : List ℕ) (r : Step) (cs′ es′ : List ℕ) : Type 0 where
+  pub fits : Fit first k rooms → StillFit first rooms r
   pub does : (s : Settings) (d : Diagram) (oldN oldE : List ℕ) → Stands s d oldN oldE first k rooms → ComingHeld d oldN oldE cs es → Told d (b .cost) p → b .depth ≡ suc (nodeAt (d .nodes) (p .id .0) .depth) → ComingStepped (newChild s (p .id .0) (b .decision) (b .cost) (b .capacity) d) oldN oldE r cs′ es′
 
 -- A child, new or there.
 pub record ChildAdded (first : ℕ) (k : Counts) (rooms : Rooms) (p : Parent) (b : Branch) (cs es : List ℕ) (r : Step) (cs′ es′ : List ℕ) : Type 0 where
+  pub fits : Fit first k rooms → StillFit first rooms r
   pub does : (s : Settings) (d : Diagram) (oldN oldE : List ℕ) → Stands s d oldN oldE first k rooms → ComingHeld d oldN oldE cs es → Told d (b .cost) p → b .depth ≡ suc (nodeAt (d .nodes) (p .id .0) .depth) → ComingStepped (branchOn s (p .id .0) (b .decision) (b .cost) (b .capacity) d) oldN oldE r cs′ es′
 
 -- Both whole tables hold diagram d, over what was there.
@@ -111,8 +125,10 @@ pub record Ready (start : ℕ) (k : Counts) (rooms : Rooms) (ns es : List ℕ) :
 
 -- The child of node `from`.
 pub record Branched (start : ℕ) (k : Counts) (rooms : Rooms) (from : ℕ) (b : Branch) (ns es : List ℕ) (r : Step) (ns′ es′ : List ℕ) : Type 0 where
+  pub fits : Fit start k rooms → StillFit start rooms r
   pub does : (s : Settings) (d : Diagram) (oldN oldE : List ℕ) → Stands s d oldN oldE start k rooms → Held d oldN oldE ns es → b .depth ≡ suc (nodeAt (d .nodes) from .depth) → Stepped (branchOn s from (b .decision) (b .cost) (b .capacity) d) oldN oldE r ns′ es′
 
 -- One more edge from node `from` into row `start + row`.
 pub record Appended (start : ℕ) (k : Counts) (rooms : Rooms) (from row : ℕ) (b : Branch) (ns es : List ℕ) (r : Step) (ns′ es′ : List ℕ) : Type 0 where
+  pub fits : Fit start k rooms → StillFit start rooms r
   pub does : (s : Settings) (d : Diagram) (oldN oldE : List ℕ) → Stands s d oldN oldE start k rooms → Held d oldN oldE ns es → Stepped (addEdge s from (start + row) (b .decision) (b .cost) d) oldN oldE r ns′ es′

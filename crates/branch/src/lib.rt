@@ -4,7 +4,6 @@ ghost use mathlib.Core.Bool.{cond, _&&_};
 ghost use mathlib.Core.List.{List};
 ghost use Prim.Native.Nat.{ℕ, suc, _+_, _-_, _*_, _<_, _≤_};
 ghost use lib.ListN.{length};
-ghost use Rattle.words.specs.I64.{mid, satAdd};
 ghost use Rattle.diagram.specs.Node.{fresh};
 ghost use Rattle.diagram.specs.Rule4.{receive};
 ghost use Rattle.rows.specs.Values.{nodeOf};
@@ -238,17 +237,6 @@ pub fn add_child(
     add_edge(coming, edges, first, k, rooms, p, row, b)
 }
 
-// value + cost, at most i64 maximum, as words
-fn handed_over(value: u64, cost: u64) -> u64
-    ensures { λ r. ⌜ r ≡ satAdd value (mid + cost) ⌝ }
-{
-    if 18446744073709551615 - value < cost {
-        18446744073709551615
-    } else {
-        value + cost
-    }
-}
-
 // The child of node `from` by that branch. The parent's row is read first; then the rest of the table, from the coming layer's
 // first row on, is lent for writing, so that no finished row can be touched.
 pub fn branch_on(
@@ -264,7 +252,7 @@ pub fn branch_on(
     ensures { λ r. ⌜ Branched start k rooms (from .0) b (now (nodes .entry)) (now (edges .entry)) r (now (nodes .exit)) (now (edges .exit)) ⌝ }
 {
     let parent = rows::read_node(nodes, from);
-    let value = handed_over(parent.value, b.cost);
+    let value = words::handed(parent.value, b.cost);
     let p = Parent {
         id: from,
         value: value,
@@ -289,7 +277,7 @@ pub fn append_edge(
     ensures { λ r. ⌜ Appended start k rooms (from .0) row b (now (nodes .entry)) (now (edges .entry)) r (now (nodes .exit)) (now (edges .exit)) ⌝ }
 {
     let parent = rows::read_node(nodes, from);
-    let value = handed_over(parent.value, b.cost);
+    let value = words::handed(parent.value, b.cost);
     let p = Parent {
         id: from,
         value: value,

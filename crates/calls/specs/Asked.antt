@@ -1,9 +1,9 @@
 -- What a call is given: a block problem, how to compile it, and a record, each number in a type that can exceed its limit.
-use mathlib.Core.List.{List, [], _∷_}
+use mathlib.Core.List.{List}
 use Prim.Native.Nat.{ℕ}
 use lib.IntN.{ℤ}
 use Rattle.words.specs.I64.{word}
-use Rattle.knapsack.specs.Items.{Item}
+unfoldable pub use Rattle.knapsack.specs.Items.{itemsOf}
 use Rattle.diagram.specs.Record.{Record}
 use Rattle.diagram.specs.Run.{Mode}
 use Rattle.diagram.specs.After4.{CutsetKind}
@@ -22,12 +22,6 @@ pub record Given : Type 0 where
   pub bound : ℤ
   pub depth : ℕ
   pub path : List ℕ
-
--- 'Item d, in given order': weights and profits side by side, as far as both go.
-unfoldable pub itemsOf : List ℕ → List ℕ → List Item
-itemsOf [] ps = []
-itemsOf (w ∷ ws) [] = []
-itemsOf (w ∷ ws) (p ∷ ps) = record { weight = w; profit = p } ∷ itemsOf ws ps
 
 -- the record that the diagram starts from: its i64 numbers as words
 unfoldable pub recordOf : Given → Record

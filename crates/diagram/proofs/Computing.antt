@@ -19,8 +19,8 @@ use Rattle.diagram.specs.After3.{decisionsUp, pathTo}
 use Rattle.diagram.specs.After4.{listRow, listRows, layerCutset, frontierEdges, frontierRows, frontierLayers, noCutset, cutsetOf, cutsetFor}
 use Rattle.diagram.specs.After5.{groundRows, groundLayer, raise, raiseParents, raiseRows, raiseLayers, boundsIf, localBounds}
 use Rattle.diagram.specs.After6.{outcome, drainedBound, drainedRecord, drainRows, drainFor, drained, finish, run}
-use Rattle.diagram.specs.Figures.{showRecord, showValue, showPath, show, flagIf, showNode, showDiagram, showTables, answerOf, tablesOf, shownOf}
+use Rattle.diagram.specs.Figures.{showRecord, shownRecord, showValue, showPath, show, flagIf, showNode, showDiagram, showTables, answerOf, tablesOf, shownOf}
 
 unfoldable pub computing : ℕ
-unfolding word number satAdd counted takes skips fastBound padded rootRecord fresh entered withFast withDeleted asRelaxed inCutset markedWith withNodes rowsFrom rowsOf coming inboundBelow inbound need onlyIf rootOnly rooted handed receive landed pushEdge addEdge lookup pushNode childOf newChild branchTo branchOn branchTake branchBoth noteFast reach expand expandAll insertBy sortBy bySquash deleteAll restrict mergedCapacity mergedRow copyEdges mergeAll twinOf squashed squashNeed keepFirst mergeInto merge relax nameLast withLast squashIf squash byCapacity ordered store storeEmpty storeLast hasRows expandSquashed layerStep grow grown terminals better bestOf bestNode parentBy walkUp exactPath bestExactNode neverSquashed isExact decisionsUp pathTo listRow listRows layerCutset frontierEdges frontierRows frontierLayers noCutset cutsetOf cutsetFor groundRows groundLayer raise raiseParents raiseRows raiseLayers boundsIf localBounds outcome drainedBound drainedRecord drainRows drainFor drained finish run showRecord showValue showPath show flagIf showNode showDiagram showTables answerOf tablesOf shownOf
+unfolding word number satAdd counted takes skips fastBound padded rootRecord fresh entered withFast withDeleted asRelaxed inCutset markedWith withNodes rowsFrom rowsOf coming inboundBelow inbound need onlyIf rootOnly rooted handed receive landed pushEdge addEdge lookup pushNode childOf newChild branchTo branchOn branchTake branchBoth noteFast reach expand expandAll insertBy sortBy bySquash deleteAll restrict mergedCapacity mergedRow copyEdges mergeAll twinOf squashed squashNeed keepFirst mergeInto merge relax nameLast withLast squashIf squash byCapacity ordered store storeEmpty storeLast hasRows expandSquashed layerStep grow grown terminals better bestOf bestNode parentBy walkUp exactPath bestExactNode neverSquashed isExact decisionsUp pathTo listRow listRows layerCutset frontierEdges frontierRows frontierLayers noCutset cutsetOf cutsetFor groundRows groundLayer raise raiseParents raiseRows raiseLayers boundsIf localBounds outcome drainedBound drainedRecord drainRows drainFor drained finish run showRecord shownRecord showValue showPath show flagIf showNode showDiagram showTables answerOf tablesOf shownOf
 computing = 0

@@ -1,6 +1,6 @@
 -- Each trap is told apart: computed from the definitions.
 use mathlib.Core.Path.{refl}
-use Rattle.diagram.specs.Traps.{answers, Answers, tables, Tables, stops, Stops}
+use Rattle.diagram.specs.Traps.{answers, Answers, tables, Tables, stops, Stops, Root, Padded}
 use Rattle.diagram.proofs.Computing.{computing}
 
 pub answers-right : Answers
@@ -14,3 +14,11 @@ tables-right = refl
 pub stops-right : Stops
 unfolding computing stops
 stops-right = refl
+
+pub root-right : Root
+unfolding computing
+root-right = refl
+
+pub padded-right : Padded
+unfolding computing
+padded-right = refl

@@ -28,6 +28,11 @@ pub data Shown : Type 0 where
 unfoldable pub showRecord : Record → ShownRecord
 showRecord r = shown (r .capacity) (number (r .value)) (number (r .bound)) (r .depth) (r .path)
 
+-- the record that is shown so
+unfoldable pub shownRecord : ShownRecord → Record
+shownRecord (shown capacity value bound depth path) =
+    record { capacity = capacity; value = word value; bound = word bound; depth = depth; path = path }
+
 unfoldable pub showValue : Diagram → Found → Option ℤ
 showValue d nowhere = none
 showValue d (at r) = some (number (nodeAt (d .nodes) r .value))
@@ -113,6 +118,14 @@ abbrev pub case : Mode → ℕ → CutsetKind → ℤ → List Item → ℕ → 
 case mode width kind lower items capacity figures =
     record {
       given = record { mode = mode; width = width; kind = kind; lower = lower; items = items; start = rootRecord capacity };
+      figures = figures;
+    }
+
+-- the same from a record that is given
+abbrev pub caseFrom : Mode → ℕ → CutsetKind → ℤ → List Item → ShownRecord → Shown → Case
+caseFrom mode width kind lower items start figures =
+    record {
+      given = record { mode = mode; width = width; kind = kind; lower = lower; items = items; start = shownRecord start };
       figures = figures;
     }
 

@@ -3,3 +3,4 @@ pub mod Cases
 pub mod Items
 pub mod Best
 pub mod FastBound
+pub mod Limits

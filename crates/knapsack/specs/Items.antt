@@ -1,12 +1,19 @@
 -- The blocks to choose from, as items with a weight and a profit, and the bytes that decisions on them are written as.
 use Prim.Native.Nat.{ℕ, _+_, _*_, _/_, _%_}
 use mathlib.Core.Bool.{Bool}
+use mathlib.Core.List.{List, [], _∷_}
 use lib.Dec.{eqb}
 
 -- Document 01, "The block problem", "Weights, profits and every capacity start at 0": an item, which is item d by its place d in a list.
 pub record Item : Type 0 where
   pub weight : ℕ
   pub profit : ℕ
+
+-- Document 01, "The block problem", "Item d, in given order": weights and profits side by side, as far as both go.
+unfoldable pub itemsOf : List ℕ → List ℕ → List Item
+itemsOf [] ps = []
+itemsOf (w ∷ ws) [] = []
+itemsOf (w ∷ ws) (p ∷ ps) = record { weight = w; profit = p } ∷ itemsOf ws ps
 
 -- Document 01, "The block problem", "A weight is the block's own byte length": every use of a weight goes through this one name.
 unfoldable pub counted : ℕ → ℕ

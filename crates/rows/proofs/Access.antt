@@ -12,13 +12,13 @@ use Rattle.layout.specs.Table.{over}
 use Rattle.layout.specs.Rows.{nodeWords, edgeWords, flagsWord, hasFlag, decodeNode, encodeNode, decodeEdge, encodeEdge, nodeTable, edgeTable}
 use Rattle.layout.proofs.Rows.{node-back, edge-back}
 use Rattle.layout.proofs.Table.{word-at, stored-replaced, stored-appended}
-use Rattle.rows.specs.Access.{NodeRead, CapacityRead, EdgeRead, NodeWritten, EdgeWritten}
+use Rattle.rows.specs.Access.{NodeRead, FieldRead, EdgeRead, NodeWritten, EdgeWritten}
 
-node-width : (n : Node) → length (encodeNode n) ≡ nodeWords
+pub node-width : (n : Node) → length (encodeNode n) ≡ nodeWords
 unfolding encodeNode
 node-width n = refl
 
-edge-width : (e : Edge) → length (encodeEdge e) ≡ edgeWords
+pub edge-width : (e : Edge) → length (encodeEdge e) ≡ edgeWords
 unfolding encodeEdge
 edge-width e = refl
 
@@ -62,6 +62,13 @@ node-read t r =
           rw (first, word 1 (lit< tt), word 2 (lit< tt), word 3 (lit< tt), word 4 (lit< tt), word 5 (lit< tt), word 6 (lit< tt), word 7 (lit< tt)) (back (nodeAt ns r));
     }
 
+-- one field read alone: the word at place k of a row, where the row's words have the field there
+pub field-read : (field : Node → ℕ) (k : ℕ) → k < nodeWords → ((n : Node) → getD (encodeNode n) k 0 ≡ field n) → (t : List ℕ) (r at : ℕ) → at ≡ r * nodeWords + k → FieldRead t r field (getD t at 0)
+field-read field k l place t r at i =
+    record {
+      is-field = λ ns old e h. ap (λ (j : ℕ). getD t j 0) i ∙ node-word ns old t r k e h l ∙ place (nodeAt ns r);
+    }
+
 -- word k of row r of an edge table
 edge-word : (es : List Edge) (old : List ℕ) (t : List ℕ) (r k : ℕ) → t ≡ over (edgeTable es) old → r < length es → k < edgeWords → getD t (r * edgeWords + k) 0 ≡ getD (encodeEdge (edgeAt es r)) k 0
 unfolding edgeTable over
@@ -93,13 +100,4 @@ edge-written t r x u q =
     record {
       replaced = λ es old e h. q ∙ ap (λ (l : List ℕ). sets l (r * 5) (encodeEdge x)) e ∙ stored-replaced encodeEdge edgeWords edge-width es old r x h;
       appended = λ es old e h room. q ∙ rw (e, h) (stored-appended encodeEdge edgeWords edge-width es old x (rw h at room));
-    }
-
-pub capacity-read : (t : List ℕ) (r : ℕ) → CapacityRead t r (getD t (r * 8) 0)
-unfolding encodeNode
-capacity-read t r =
-    record {
-      is-row = λ ns old e h.
-          let z : r * 8 ≡ r * 8 + 0 = omega arith in
-          ap (λ (i : ℕ). getD t i 0) z ∙ node-word ns old t r 0 e h (lit< tt);
     }

@@ -11,9 +11,9 @@ use Rattle.layout.specs.Rows.{nodeWords, edgeWords, nodeTable, edgeTable}
 pub record NodeRead (t : List ℕ) (r : ℕ) (n : Node) : Type 0 where
   pub is-row : (ns : List Node) (old : List ℕ) → t ≡ over (nodeTable ns) old → r < length ns → n ≡ nodeAt ns r
 
--- the capacity alone
-pub record CapacityRead (t : List ℕ) (r c : ℕ) : Type 0 where
-  pub is-row : (ns : List Node) (old : List ℕ) → t ≡ over (nodeTable ns) old → r < length ns → c ≡ nodeAt ns r .capacity
+-- table t read at row r for one field of its node gives x
+pub record FieldRead (t : List ℕ) (r : ℕ) (field : Node → ℕ) (x : ℕ) : Type 0 where
+  pub is-field : (ns : List Node) (old : List ℕ) → t ≡ over (nodeTable ns) old → r < length ns → x ≡ field (nodeAt ns r)
 
 pub record EdgeRead (t : List ℕ) (r : ℕ) (e : Edge) : Type 0 where
   pub is-row : (es : List Edge) (old : List ℕ) → t ≡ over (edgeTable es) old → r < length es → e ≡ edgeAt es r

@@ -4,7 +4,7 @@ ghost use mathlib.Core.List.{List, [], _∷_, _++_};
 ghost use Prim.Native.Nat.{ℕ, suc, _+_, _*_, _<_, _≤_};
 ghost use lib.ListN.{length, set};
 ghost use Rattle.rows.specs.Values.{nodeOf, edgeOf};
-ghost use Rattle.rows.specs.Access.{NodeRead, CapacityRead, NodeWritten, EdgeRead, EdgeWritten};
+ghost use Rattle.rows.specs.Access.{NodeRead, FieldRead, NodeWritten, EdgeRead, EdgeWritten};
 ghost use Rattle.layout.specs.Rows.{digit, flagsWord};
 
 pub const NODE_WORDS: usize = 8;
@@ -125,10 +125,18 @@ pub fn write_edge(edges: &mut [u64], e: EdgeId, x: Edge)
     edges[at + 4] = x.next.0;
 }
 
-// The capacity of row n.
+// A node's capacity alone, for the orders of a layer: eight reads for one number would be a waste.
 pub fn read_capacity(nodes: &[u64], n: NodeId) -> u64
     requires { ⌜ n .0 * 8 + 8 ≤ length (now nodes) ⌝ }
-    ensures { λ r. ⌜ CapacityRead (now (nodes .entry)) (n .0) r ⌝ }
+    ensures { λ r. ⌜ FieldRead (now (nodes .entry)) (n .0) (λ x. x .capacity) r ⌝ }
 {
     nodes[n.0 * NODE_WORDS]
+}
+
+// A node's value alone, as its word.
+pub fn read_value(nodes: &[u64], n: NodeId) -> u64
+    requires { ⌜ n .0 * 8 + 8 ≤ length (now nodes) ⌝ }
+    ensures { λ r. ⌜ FieldRead (now (nodes .entry)) (n .0) (λ x. x .value) r ⌝ }
+{
+    nodes[n.0 * NODE_WORDS + 2]
 }

@@ -32,3 +32,4 @@ pub mod Runs
 pub mod Leads
 pub mod Rooms
 pub mod Ten
+pub mod Fits

@@ -60,10 +60,10 @@ word-injective (negsuc m) (negsuc n) ha hb e =
 
 -- ---- a difference of two naturals: its word and its size
 
-sub-below : (a b : ℕ) → a < b → subℕ a b ≡ negsuc (b - suc a)
+pub sub-below : (a b : ℕ) → a < b → subℕ a b ≡ negsuc (b - suc a)
 sub-below a b h = rw (lt-ltb a b h)
 
-sub-from : (a b : ℕ) → ¬ (a < b) → subℕ a b ≡ pos (a - b)
+pub sub-from : (a b : ℕ) → ¬ (a < b) → subℕ a b ≡ pos (a - b)
 sub-from a b h = rw (le-ltb a b (omega arith))
 
 word-sub : (a b : ℕ) → word (subℕ a b) ≡ mid + a - b

@@ -1,2 +1,3 @@
--- The laws of `words`.
+-- The laws of `words`, and what the code's casts give.
 pub mod Laws
+pub mod Border

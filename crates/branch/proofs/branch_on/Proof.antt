@@ -7,7 +7,7 @@ use Rattle.branch.proofs.branch_on.Tie as tie
 use Rattle.branch.proofs.branch_on.Reads as reads
 use Rattle.branch.proofs.branch_on.Lts as lts
 use Rattle.branch.proofs.add_child.Reads as add-child-reads
-use Rattle.branch.proofs.handed_over.Reads as handed-over-reads
+use Rattle.words.proofs.handed.Reads as handed-reads
 use Rattle.rows.proofs.read_node.Reads as read-node-reads
 
 -- src/lib.rt:254:9
@@ -15,8 +15,8 @@ read-node-requires : tie.Need-read-node-requires
 read-node-requires c κs = search needs
 
 -- src/lib.rt:255:9
-handed-over-requires : tie.Need-handed-over-requires
-handed-over-requires c κs = search needs
+handed-requires : tie.Need-handed-requires
+handed-requires c κs = search needs
 
 -- src/lib.rt:257:16
 mul-tail : tie.Need-mul-tail
@@ -54,14 +54,14 @@ same-length-2 c = search needs
 returns : tie.Need-returns
 returns c =
     let s = c .before .before .before .before .before .before .before .before .before .before .before .before in
-    branched _ _ _ _ _ _ _ _ _ _ _ _ _ (s .pre .1) (omega (arith, s .pre .0 .start-low, s .pre .0 .rows-in)) (c .before .before .before .before .before .before .before .before .read-node .ensures) (c .before .before .before .before .before .before .before .handed-over .ensures) (c .before .before .before .before .add-child .ensures) refl
+    branched _ _ _ _ _ _ _ _ _ _ _ _ _ (s .pre .1) (omega (arith, s .pre .0 .start-low, s .pre .0 .rows-in)) (c .before .before .before .before .before .before .before .before .read-node .ensures) (c .before .before .before .before .before .before .before .handed .ensures) (c .before .before .before .before .add-child .ensures) refl
 
 pub branch-on-spec : {M : Type 1} → statement M
 branch-on-spec =
     tie.close
     (tie.spec
     read-node-requires
-    handed-over-requires
+    handed-requires
     mul-tail
     mul-add-child
     sub-add-child

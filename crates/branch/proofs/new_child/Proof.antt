@@ -1,3 +1,4 @@
+use native.Mathlib.Omega.{arith}
 use mathlib.Core.Path.{ap, _∙_}
 use Rattle.diagram.specs.Rule4.{receive}
 use Rattle.branch.proofs.Children.{refused-10, refused-11, refused-12, child-made}
@@ -41,7 +42,9 @@ write-edge-requires c κs = search needs
 
 -- src/lib.rt:214:5
 write-node-requires : tie.Need-write-node-requires
-write-node-requires c κs = search needs
+write-node-requires c κs =
+    let s = c .before .before .before .before .before .before .before .before .before .before .before .before .before .before .before in
+    omega (arith, s .pre .rooms-in, s .pre .first-low)
 
 -- src/lib.rt:216:16
 add-t24 : tie.Need-add-t24

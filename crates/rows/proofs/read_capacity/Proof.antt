@@ -1,25 +1,26 @@
+-- `rows::read_capacity` meets its contract: the word at the field's place of the row is the field.
+use mathlib.Core.Path.{refl}
+use native.Mathlib.Omega.{arith}
+use lib.Dec.{lit<}
 use borrow.Author.Needs.{needs}
-use Rattle.rows.proofs.Access.{capacity-read}
+use Rattle.layout.specs.Rows.{encodeNode, capacityPlace}
+use Rattle.rows.proofs.Access.{field-read}
 use Rattle.rows.proofs.read_capacity.Statement.{statement}
 use Rattle.rows.proofs.read_capacity.Tie as tie
-use Rattle.rows.proofs.read_capacity.Reads as reads
-use Rattle.rows.proofs.read_capacity.Lts as lts
 
--- src/lib.rt:133:11
 mul-result : tie.Need-mul-result
 mul-result c = search needs
 
--- src/lib.rt:133:5
 mul-result-2 : tie.Need-mul-result-2
 mul-result-2 c = search needs
 
--- src/lib.rt:133:5
 shared-slice-read-result : tie.Need-shared-slice-read-result
 shared-slice-read-result c = search needs
 
--- src/lib.rt:129:1
 returns : tie.Need-returns
-returns c = capacity-read _ _
+unfolding encodeNode
+returns c = field-read (λ n. n .capacity) capacityPlace (lit< tt) (λ n. refl) _ _ _ (omega arith)
 
 pub read-capacity-spec : {M : Type 1} → statement M
-read-capacity-spec = tie.close (tie.spec mul-result mul-result-2 shared-slice-read-result returns)
+read-capacity-spec =
+    tie.close (tie.spec mul-result mul-result-2 shared-slice-read-result returns)

@@ -1,0 +1,2 @@
+-- The laws of `blocks`.
+pub mod Laws

@@ -1,0 +1,7 @@
+-- The proofs of the statements about the whole call `compile`.
+pub mod View
+pub mod Accepted
+pub mod Rows
+pub mod Refusals
+pub mod Sizes
+pub mod Tables

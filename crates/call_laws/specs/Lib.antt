@@ -1,0 +1,2 @@
+-- The laws of the whole call `compile`, as statements.
+pub mod Statements

@@ -1,0 +1,4 @@
+-- Laws of expanding.
+pub mod Decisions
+pub mod Nodes
+pub mod Rounds

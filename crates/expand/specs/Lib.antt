@@ -1,0 +1,2 @@
+-- What expanding promises.
+pub mod State

@@ -1,0 +1,197 @@
+-- Bottom values go up: the inbound edges of a row by their next numbers, the rows of a layer, the layers from the newest on.
+use mathlib.Core.Path.{_≡_, refl, sym, ap, subst, _∙_}
+use mathlib.Core.Bool.{Bool, true, false, cond}
+use mathlib.Core.List.{List, [], _∷_}
+use Prim.Native.Nat.{ℕ, zero, suc, _+_, _-_, _*_, _<_, _≤_}
+use native.Mathlib.Omega.{arith}
+use lib.Dec.{eqb}
+use lib.ListN.{length}
+use borrow.Author.Tests.{eqb-true}
+use Rattle.words.specs.I64.{mid, satAdd}
+use Rattle.knapsack.proofs.Cases.{by-test}
+use Rattle.diagram.specs.Node.{Node, Edge, nodeAt, edgeAt, update}
+use Rattle.diagram.specs.Tables.{inboundBelow, inbound}
+use Rattle.diagram.specs.After5.{raise, raiseParents}
+use Rattle.rows.specs.Access.{NodeRead, EdgeRead}
+use Rattle.branch.specs.declared.Counts.{Counts}
+use Rattle.theorems.proofs.Links.{newestBelow}
+use Rattle.finish.specs.Sits.{Sits, Row}
+use Rattle.finish.specs.Bounds.{RowChanged, Rewritten, Newest, ParentsRaised, RowRaised}
+use Rattle.finish.proofs.Walks.{node-is, edge-is, edge-words}
+use Rattle.finish.proofs.Rewriting.{nodes-within, unwritten, raise-links, row-written}
+
+-- ---- the inbound edges from a link on
+
+pub none-left : (es : List Edge) (r p : ℕ) → newestBelow p es r ≡ 0 → inboundBelow p es r ≡ []
+unfolding newestBelow inboundBelow
+none-left es r zero q = refl
+none-left es r (suc e) q =
+    by-test (λ b. cond b (suc e) (newestBelow e es r) ≡ 0 → cond b (e ∷ inboundBelow e es r) (inboundBelow e es r) ≡ []) (eqb (edgeAt es e .to) r)
+    (λ _ z. absurd (omega arith))
+    (λ _ z. none-left es r e z)
+    q
+
+-- edge e is the newest of the first p edges that end in row r
+pub record NewestIs (es : List Edge) (r p e : ℕ) : Type 0 where
+  pub below : e < p
+  pub ends : edgeAt es e .to ≡ r
+  pub inbound-are : inboundBelow p es r ≡ e ∷ inboundBelow e es r
+
+pub newest-is : (es : List Edge) (r p e : ℕ) → newestBelow p es r ≡ suc e → NewestIs es r p e
+unfolding newestBelow inboundBelow
+newest-is es r zero e q = absurd (omega arith)
+newest-is es r (suc p) e q =
+    by-test (λ b. eqb (edgeAt es p .to) r ≡ b → cond b (suc p) (newestBelow p es r) ≡ suc e → NewestIs es r (suc p) e) (eqb (edgeAt es p .to) r)
+    (λ _ z k. let y : p ≡ e = omega arith in
+    record {
+      below = omega arith;
+      ends = ap (λ (i : ℕ). edgeAt es i .to) (sym y) ∙ eqb-true (edgeAt es p .to) r z;
+      inbound-are = ap (λ (a : Bool). cond a (p ∷ inboundBelow p es r) (inboundBelow p es r)) z ∙ ap (λ (i : ℕ). i ∷ inboundBelow i es r) y;
+    })
+    (λ _ z k. let n = newest-is es r p e k in
+    record {
+      below = omega (arith, n .below);
+      ends = n .ends;
+      inbound-are = ap (λ (a : Bool). cond a (p ∷ inboundBelow p es r) (inboundBelow p es r)) z ∙ n .inbound-are;
+    })
+    refl q
+
+newest-low : (es : List Edge) (r p : ℕ) → newestBelow p es r ≤ p
+unfolding newestBelow
+newest-low es r zero = omega arith
+newest-low es r (suc p) =
+    by-test (λ b. cond b (suc p) (newestBelow p es r) ≤ suc p) (eqb (edgeAt es p .to) r) (λ _. omega arith) (λ _. omega (arith, newest-low es r p))
+
+-- ---- the parents of a row
+
+-- the parents over the edges that were walked are raised: those over the first `edges` edges are left
+pub record Left {k : Counts} {ns es : List ℕ} (h : Sits k ns es) (own r link : ℕ) (us : List ℕ) : Type 0 where
+  pub rows : List Node
+  pub edges : ℕ
+  pub within : edges ≤ length (h .diagram .edges)
+  pub link-is : link ≡ newestBelow edges (h .diagram .edges) r
+  pub written : Rewritten h rows us
+  pub rest : raiseParents (h .diagram .edges) own (inboundBelow edges (h .diagram .edges) r) rows ≡ raiseParents (h .diagram .edges) own (inbound (h .diagram .edges) r) (h .diagram .nodes)
+
+pub record Raising (own first : ℕ) (ns es : List ℕ) (link : ℕ) (us : List ℕ) : Type 0 where
+  pub does : (k : Counts) (h : Sits k ns es) (r : ℕ) → r < length (h .diagram .nodes) → first ≡ nodeAt (h .diagram .nodes) r .newest → Left h own r link us
+
+pub raise-none : (own first : ℕ) (ns es : List ℕ) → Raising own first ns es first ns
+unfolding inbound
+raise-none own first ns es =
+    record {
+      does = λ k h r l q.
+          record { rows = h .diagram .nodes; edges = length (h .diagram .edges); within = omega arith; link-is = q ∙ h .wired .first r l; written = unwritten h; rest = refl };
+    }
+
+-- the edge at a link
+pub record AtLink {k : Counts} {ns es : List ℕ} (h : Sits k ns es) (own r link : ℕ) (us : List ℕ) (e : Edge) (left : Left h own r link us) : Type 0 where
+  pub newest : NewestIs (h .diagram .edges) r (left .edges) (link - 1)
+  pub edge-in : link - 1 < length (h .diagram .edges)
+  pub edge-is : e ≡ edgeAt (h .diagram .edges) (link - 1)
+  pub from-in : e .from < length (left .rows)
+  pub next-is : e .next ≡ newestBelow (link - 1) (h .diagram .edges) r
+
+link-edge : {k : Counts} {ns es : List ℕ} (h : Sits k ns es) (own r link : ℕ) (us : List ℕ) (left : Left h own r link us) → 0 < link → NewestIs (h .diagram .edges) r (left .edges) (link - 1)
+link-edge h own r link us left z =
+    let q : newestBelow (left .edges) (h .diagram .edges) r ≡ suc (link - 1) = omega (arith, left .link-is) in
+    newest-is (h .diagram .edges) r (left .edges) (link - 1) q
+
+at-link : {k : Counts} {ns es : List ℕ} (h : Sits k ns es) (own r link : ℕ) (us : List ℕ) (e : Edge) (left : Left h own r link us) → 0 < link → EdgeRead es (link - 1) e → AtLink h own r link us e left
+at-link h own r link us e left z read =
+    let n = link-edge h own r link us left z in
+    let i : link - 1 < length (h .diagram .edges) = omega (arith, n .below, left .within) in
+    let x = edge-is h (link - 1) e read i in
+    let a = h .wired .arrows (link - 1) i in
+    let f : e .from ≡ edgeAt (h .diagram .edges) (link - 1) .from = ap (λ (y : Edge). y .from) x in
+    record {
+      newest = n;
+      edge-in = i;
+      edge-is = x;
+      from-in = omega (arith, a .from-in, h .start-in, left .written .long);
+      next-is = ap (λ (y : Edge). y .next) x ∙ h .wired .link (link - 1) i ∙ ap (newestBelow (link - 1) (h .diagram .edges)) (n .ends);
+    }
+
+-- one parent more
+pub raise-one : (own first : ℕ) (ns es : List ℕ) (link : ℕ) (us vs : List ℕ) (e : Edge) (b : ℕ) → 0 < link → EdgeRead es (link - 1) e → b ≡ satAdd own (mid + e .cost) → RowChanged (raise b) (e .from) us vs → Raising own first ns es link us → Raising own first ns es (e .next) vs
+unfolding raiseParents
+raise-one own first ns es link us vs e b z read q c g =
+    record {
+      does = λ k h r l f.
+          let left = g .does k h r l f in
+          let a = at-link h own r link us e left z read in
+          let E = h .diagram .edges in
+          let w : Rewritten h (update (raise b) (left .rows) (e .from)) vs = row-written h (left .rows) us vs (raise b) (e .from) (raise-links b) (a .from-in) (left .written) c in
+          record {
+            rows = update (raise b) (left .rows) (e .from);
+            edges = link - 1;
+            within = omega (arith, a .edge-in);
+            link-is = a .next-is;
+            written = w;
+            rest =
+                ap (λ (v : ℕ). raiseParents E own (inboundBelow (link - 1) E r) (update (raise v) (left .rows) (e .from))) q
+                ∙ ap (λ (y : Edge). raiseParents E own (inboundBelow (link - 1) E r) (update (raise (satAdd own (mid + y .cost))) (left .rows) (y .from))) (a .edge-is)
+                ∙ ap (λ (l : List ℕ). raiseParents E own l (left .rows)) (sym (a .newest .inbound-are))
+                ∙ left .rest;
+          };
+    }
+
+pub raise-all : (own first : ℕ) (ns es : List ℕ) (link : ℕ) (us : List ℕ) → link ≡ 0 → Raising own first ns es link us → ParentsRaised own first ns es us
+unfolding raiseParents
+raise-all own first ns es link us z g =
+    record {
+      does = λ k h r l f.
+          let left = g .does k h r l f in
+          let E = h .diagram .edges in
+          let n : inboundBelow (left .edges) E r ≡ [] = none-left E r (left .edges) (sym (left .link-is) ∙ z) in
+          let q : left .rows ≡ raiseParents E own (inbound E r) (h .diagram .nodes) = ap (λ (l : List ℕ). raiseParents E own l (left .rows)) (sym n) ∙ left .rest in
+          subst (λ (rows : List Node). Rewritten h rows us) q (left .written);
+    }
+
+-- what a turn asks: the edge's words, its parent's words, and that its next number is the smaller one
+pub link-readable : (own link₀ : ℕ) (ns es : List ℕ) (link : ℕ) (us : List ℕ) → Newest ns es link₀ → Raising own link₀ ns es link us → 0 < link → (link - 1) * 5 + 5 ≤ length es
+link-readable own link₀ ns es link us p g z =
+    let h = p .sits in
+    let left = g .does (p .counts) h (p .row) (p .inside) (p .newest-is) in
+    let n = link-edge h own (p .row) link us left z in
+    edge-words h (link - 1) (omega (arith, n .below, left .within))
+
+pub record Turn (us : List ℕ) (link from next : ℕ) : Type 0 where
+  pub parent-in : from * 8 + 8 ≤ length us
+  pub falls : next < link
+
+pub turn-at : (own link₀ : ℕ) (ns es : List ℕ) (link : ℕ) (us : List ℕ) (e : Edge) → Newest ns es link₀ → Raising own link₀ ns es link us → 0 < link → EdgeRead es (link - 1) e → Turn us link (e .from) (e .next)
+turn-at own link₀ ns es link us e p g z read =
+    let h = p .sits in
+    let left = g .does (p .counts) h (p .row) (p .inside) (p .newest-is) in
+    let a = at-link h own (p .row) link us e left z read in
+    record {
+      parent-in = omega (arith, a .from-in, nodes-within (left .rows) (h .oldN) us (left .written .nodes-are));
+      falls = omega (arith, a .next-is, newest-low (h .diagram .edges) (p .row) (link - 1));
+    }
+
+-- ---- a row
+
+pub row-unmarked : (r : ℕ) (ns es : List ℕ) (n : Node) → NodeRead ns r n → n .marked ≡ false → RowRaised r ns es ns
+row-unmarked r ns es n read z =
+    record {
+      does = λ k h l.
+          let x = node-is h r n read l in
+          let m : nodeAt (h .diagram .nodes) r .marked ≡ false = ap (λ (y : Node). y .marked) (sym x) ∙ z in
+          subst (λ (b : Bool). Rewritten h (cond b (raiseParents (h .diagram .edges) (nodeAt (h .diagram .nodes) r .bottom) (inbound (h .diagram .edges) r) (h .diagram .nodes)) (h .diagram .nodes)) ns) (sym m) (unwritten h);
+    }
+
+pub row-marked : (r : ℕ) (ns es us : List ℕ) (n : Node) → NodeRead ns r n → n .marked ≡ true → ParentsRaised (n .bottom) (n .newest) ns es us → RowRaised r ns es us
+row-marked r ns es us n read z p =
+    record {
+      does = λ k h l.
+          let x = node-is h r n read l in
+          let m : nodeAt (h .diagram .nodes) r .marked ≡ true = ap (λ (y : Node). y .marked) (sym x) ∙ z in
+          let w = p .does k h r l (ap (λ (y : Node). y .newest) x) in
+          subst (λ (b : Bool). Rewritten h (cond b (raiseParents (h .diagram .edges) (nodeAt (h .diagram .nodes) r .bottom) (inbound (h .diagram .edges) r) (h .diagram .nodes)) (h .diagram .nodes)) us) (sym m)
+          (subst (λ (y : Node). Rewritten h (raiseParents (h .diagram .edges) (y .bottom) (inbound (h .diagram .edges) r) (h .diagram .nodes)) us) x w);
+    }
+
+pub newest-of : (r : ℕ) (ns es : List ℕ) (n : Node) → Row ns es r → NodeRead ns r n → Newest ns es (n .newest)
+newest-of r ns es n p read =
+    record { counts = p .counts; sits = p .sits; row = r; inside = p .inside; newest-is = ap (λ (y : Node). y .newest) (node-is (p .sits) r n read (p .inside)) }
