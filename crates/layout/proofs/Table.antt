@@ -15,6 +15,27 @@ drops : (a m old : List ℕ) (n k : ℕ) → length a ≡ n → length m ≡ k �
 drops a m old n k p q =
     rw (← p, ← q, drop-append-add a (drop (length a) old) (length m), drop-drop (length m) (length a) old, length-append a m)
 
+-- a row behind rows whose words are together as many as rows of one width have, whatever each of them has
+module _ {R : Type 0} (encode : R → List ℕ) where
+  pub words-join : (rs ts : List R) → wordsOf encode (rs ++ ts) ≡ wordsOf encode rs ++ wordsOf encode ts
+  unfolding wordsOf
+  words-join [] ts = refl
+  words-join (r ∷ rs) ts = rw (words-join rs ts, append-assoc)
+
+  pub row-behind : (w : ℕ) (rs : List R) (old : List ℕ) (m : R) → length (wordsOf encode rs) ≡ length rs * w → length (encode m) ≡ w → take (length rs * w) (over (wordsOf encode rs) old) ++ encode m ++ drop (length rs * w + w) (over (wordsOf encode rs) old) ≡ over (wordsOf encode (rs ++ (m ∷ []))) old
+  unfolding over wordsOf
+  row-behind w rs old m all one =
+      let W = wordsOf encode rs in
+      let d : drop (length rs * w + w) (W ++ drop (length W) old) ≡ drop (length (W ++ encode m)) old = drops W (encode m) old (length rs * w) w all one in
+      rw (take-at W (drop (length W) old) (length rs * w) all, d, words-join rs (m ∷ []), append-nil (encode m))
+
+  pub stored-behind : (w : ℕ) (rs : List R) (old : List ℕ) (m : R) → length (wordsOf encode rs) ≡ length rs * w → length (encode m) ≡ w → suc (length rs) * w ≤ length old → sets (over (wordsOf encode rs) old) (length rs * w) (encode m) ≡ over (wordsOf encode (rs ++ (m ∷ []))) old
+  unfolding over
+  stored-behind w rs old m all one h =
+      let l : length rs * w + w ≤ length (over (wordsOf encode rs) old) = simp (length-append, length-drop, all) (omega (arith, suc-mul (length rs) w)) in
+      sets-eq (encode m) (over (wordsOf encode rs) old) (length rs * w) (rw one l)
+      ∙ rw one (row-behind w rs old m all one)
+
 module _ {R : Type 0} (encode : R → List ℕ) (w : ℕ) (fixed : (r : R) → length (encode r) ≡ w) where
   pub length-words : (rs : List R) → length (wordsOf encode rs) ≡ length rs * w
   unfolding wordsOf
@@ -35,9 +56,7 @@ module _ {R : Type 0} (encode : R → List ℕ) (w : ℕ) (fixed : (r : R) → l
 
   -- the words up to row r, and those from it on
   pub words-append : (rs ts : List R) → wordsOf encode (rs ++ ts) ≡ wordsOf encode rs ++ wordsOf encode ts
-  unfolding wordsOf
-  words-append [] ts = refl
-  words-append (r ∷ rs) ts = rw (words-append rs ts, append-assoc)
+  words-append rs ts = words-join encode rs ts
 
   -- a row replaced
   replaced-in : (rs : List R) (rest : List ℕ) (r : ℕ) (m : R) → r < length rs → take (r * w) (wordsOf encode rs ++ rest) ++ encode m ++ drop (r * w + w) (wordsOf encode rs ++ rest) ≡ wordsOf encode (set rs r m) ++ rest
@@ -61,11 +80,7 @@ module _ {R : Type 0} (encode : R → List ℕ) (w : ℕ) (fixed : (r : R) → l
 
   -- a row appended
   pub row-appended : (rs : List R) (old : List ℕ) (m : R) → take (length rs * w) (over (wordsOf encode rs) old) ++ encode m ++ drop (length rs * w + w) (over (wordsOf encode rs) old) ≡ over (wordsOf encode (rs ++ (m ∷ []))) old
-  unfolding over wordsOf
-  row-appended rs old m =
-      let W = wordsOf encode rs in
-      let d : drop (length rs * w + w) (W ++ drop (length W) old) ≡ drop (length (W ++ encode m)) old = drops W (encode m) old (length rs * w) w (length-words rs) (fixed m) in
-      rw (take-at W (drop (length W) old) (length rs * w) (length-words rs), d, words-append rs (m ∷ []), append-nil (encode m))
+  row-appended rs old m = row-behind encode w rs old m (length-words rs) (fixed m)
 
   -- the same of a row's words stored one by one
   pub length-over : (rs : List R) (old : List ℕ) → length rs * w ≤ length old → length (over (wordsOf encode rs) old) ≡ length old
@@ -82,9 +97,7 @@ module _ {R : Type 0} (encode : R → List ℕ) (w : ℕ) (fixed : (r : R) → l
       ∙ rw fixed (row-replaced rs old r m h)
 
   pub stored-appended : (rs : List R) (old : List ℕ) (m : R) → suc (length rs) * w ≤ length old → sets (over (wordsOf encode rs) old) (length rs * w) (encode m) ≡ over (wordsOf encode (rs ++ (m ∷ []))) old
-  stored-appended rs old m h =
-      sets-eq (encode m) (over (wordsOf encode rs) old) (length rs * w) (rw fixed (omega (arith, suc-mul (length rs) w, length-over rs old (omega (arith, suc-mul (length rs) w)))))
-      ∙ rw fixed (row-appended rs old m)
+  stored-appended rs old m h = stored-behind encode w rs old m (length-words rs) (fixed m) h
 
   -- the part of a table from row k on is a table of the rows from k on; and put back behind the first k rows it gives the table again
   pub part-from : (rs : List R) (old : List ℕ) (k : ℕ) → k ≤ length rs → drop (k * w) (over (wordsOf encode rs) old) ≡ over (wordsOf encode (drop k rs)) (drop (k * w) old)

@@ -1,7 +1,7 @@
 -- How records stand in a flat list of words: a fixed count to a record, the path one byte to a word.
 use mathlib.Core.List.{List, [], _∷_}
-use Prim.Native.Nat.{ℕ, _+_}
-use lib.ListN.{getD, take, drop}
+use Prim.Native.Nat.{ℕ, _+_, _≤_}
+use lib.ListN.{length, getD, take, drop}
 use Rattle.diagram.specs.Record.{Record, pathRoom, padded}
 use Rattle.layout.specs.Table.{wordsOf}
 
@@ -39,3 +39,8 @@ decodeRecord ws =
 
 unfoldable pub recordTable : List Record → List ℕ
 recordTable rs = wordsOf encodeRecord rs
+
+-- each record's path has room
+abbrev pub Roomy : List Record → Type 0
+Roomy [] = Unit {0}
+Roomy (r ∷ rs) = (length (r .path) ≤ pathRoom) × Roomy rs

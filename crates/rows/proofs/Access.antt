@@ -5,14 +5,17 @@ use mathlib.Core.List.{List, [], _∷_, _++_}
 use Prim.Native.Nat.{ℕ, zero, suc, _+_, _*_, _/_, _%_, _<_, _≤_}
 use native.Mathlib.Omega.{arith}
 use lib.Dec.{eqb, lit<}
-use lib.ListN.{length, getD, set}
-use lib.Seq.{sets}
+use lib.ListN.{length, getD, set, take, drop}
+use lib.Seq.{sets, sets-eq, paste, length-sets, take-all}
 use Rattle.diagram.specs.Node.{Node, Edge, noNode, noEdge, nodeAt, edgeAt}
+use Rattle.diagram.specs.Record.{Record, pathRoom, padded}
 use Rattle.layout.specs.Table.{over}
 use Rattle.layout.specs.Rows.{nodeWords, edgeWords, flagsWord, hasFlag, decodeNode, encodeNode, decodeEdge, encodeEdge, nodeTable, edgeTable}
+use Rattle.layout.specs.Records.{encodeRecord, recordTable}
 use Rattle.layout.proofs.Rows.{node-back, edge-back}
+use Rattle.layout.proofs.Records.{padded-length, record-behind}
 use Rattle.layout.proofs.Table.{word-at, stored-replaced, stored-appended}
-use Rattle.rows.specs.Access.{NodeRead, FieldRead, EdgeRead, NodeWritten, EdgeWritten}
+use Rattle.rows.specs.Access.{NodeRead, FieldRead, EdgeRead, NodeWritten, EdgeWritten, RecordWritten}
 
 pub node-width : (n : Node) → length (encodeNode n) ≡ nodeWords
 unfolding encodeNode
@@ -100,4 +103,26 @@ edge-written t r x u q =
     record {
       replaced = λ es old e h. q ∙ ap (λ (l : List ℕ). sets l (r * 5) (encodeEdge x)) e ∙ stored-replaced encodeEdge edgeWords edge-width es old r x h;
       appended = λ es old e h room. q ∙ rw (e, h) (stored-appended encodeEdge edgeWords edge-width es old x (rw h at room));
+    }
+
+-- a path in its 64 places behind the record's numbers
+pasted : (t : List ℕ) (at : ℕ) (x : Record) (bytes : List ℕ) → at + 68 ≤ length t → length (x .path) ≤ pathRoom → bytes ≡ padded (x .path) → paste (sets t at (x .capacity ∷ x .value ∷ x .bound ∷ x .depth ∷ [])) (at + 4) bytes 64 ≡ sets t at (encodeRecord x)
+unfolding encodeRecord
+pasted t at x bytes fits k b =
+    let u = sets t at (x .capacity ∷ x .value ∷ x .bound ∷ x .depth ∷ []) in
+    let l : length (padded (x .path)) ≡ 64 = padded-length (x .path) k in
+    let n : length u ≡ length t = length-sets t at (x .capacity ∷ x .value ∷ x .bound ∷ x .depth ∷ []) in
+    let z : at + 4 ≡ suc (suc (suc (suc at))) = omega arith in
+    let p = padded (x .path) in
+    let e : paste u (at + 4) p 64 ≡ sets u (at + 4) p = rw (take-all 64 p (omega arith)) (sym (sets-eq p u (at + 4) (omega arith) ∙ ap (λ (k : ℕ). take (at + 4) u ++ p ++ drop (at + 4 + k) u) l)) in
+    ap (λ (q : List ℕ). paste u (at + 4) q 64) b ∙ e ∙ ap (λ (k : ℕ). sets u k p) z
+
+-- four numbers stored one by one, and the path's places behind them
+pub record-written : (t : List ℕ) (r capacity value bound depth : ℕ) (bytes u : List ℕ) → r * 68 + 68 ≤ length t → u ≡ paste (sets t (r * 68) (capacity ∷ value ∷ bound ∷ depth ∷ [])) (r * 68 + 4) bytes 64 → RecordWritten t r capacity value bound depth bytes u
+record-written t r capacity value bound depth bytes u fits q =
+    record {
+      appended = λ rs old path e all h room k b.
+          let x : Record = record { capacity = capacity; value = value; bound = bound; depth = depth; path = path } in
+          let w : sets t (r * 68) (encodeRecord x) ≡ over (recordTable (rs ++ (x ∷ []))) old = rw (e, h) (record-behind rs old x all k (rw h at room)) in
+          q ∙ pasted t (r * 68) x bytes fits k b ∙ w;
     }

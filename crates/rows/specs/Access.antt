@@ -4,8 +4,10 @@ use mathlib.Core.List.{List, [], _∷_, _++_}
 use Prim.Native.Nat.{ℕ, suc, _*_, _<_, _≤_}
 use lib.ListN.{length, set}
 use Rattle.diagram.specs.Node.{Node, Edge, nodeAt, edgeAt}
+use Rattle.diagram.specs.Record.{Record, pathRoom, padded}
 use Rattle.layout.specs.Table.{over}
 use Rattle.layout.specs.Rows.{nodeWords, edgeWords, nodeTable, edgeTable}
+use Rattle.layout.specs.Records.{recordWords, recordTable, Roomy}
 
 -- table t read at row r gives n
 pub record NodeRead (t : List ℕ) (r : ℕ) (n : Node) : Type 0 where
@@ -26,3 +28,7 @@ pub record NodeWritten (t : List ℕ) (r : ℕ) (n : Node) (u : List ℕ) : Type
 pub record EdgeWritten (t : List ℕ) (r : ℕ) (e : Edge) (u : List ℕ) : Type 0 where
   pub replaced : (es : List Edge) (old : List ℕ) → t ≡ over (edgeTable es) old → r < length es → u ≡ over (edgeTable (set es r e)) old
   pub appended : (es : List Edge) (old : List ℕ) → t ≡ over (edgeTable es) old → r ≡ length es → suc r * edgeWords ≤ length old → u ≡ over (edgeTable (es ++ (e ∷ []))) old
+
+-- record list t becomes u when record number r is written behind those that are there; bytes are its path's 64 places
+pub record RecordWritten (t : List ℕ) (r capacity value bound depth : ℕ) (bytes u : List ℕ) : Type 0 where
+  pub appended : (rs : List Record) (old path : List ℕ) → t ≡ over (recordTable rs) old → Roomy rs → r ≡ length rs → suc r * recordWords ≤ length old → length path ≤ pathRoom → bytes ≡ padded path → u ≡ over (recordTable (rs ++ (record { capacity = capacity; value = value; bound = bound; depth = depth; path = path } ∷ []))) old

@@ -1,15 +1,21 @@
-// A node or an edge by value, read from and written to the words of its row: the only code that knows where a row's words stand.
+// A node or an edge by value, read from and written to the words of its row, and a record written: the only code that knows where their words stand.
 ghost use mathlib.Core.Path.{_≡_};
 ghost use mathlib.Core.List.{List, [], _∷_, _++_};
 ghost use Prim.Native.Nat.{ℕ, suc, _+_, _*_, _<_, _≤_};
 ghost use lib.ListN.{length, set};
+ghost use lib.Seq.{paste};
 ghost use Rattle.rows.specs.Values.{nodeOf, edgeOf};
-ghost use Rattle.rows.specs.Access.{NodeRead, FieldRead, NodeWritten, EdgeRead, EdgeWritten};
+ghost use Rattle.rows.specs.Access.{NodeRead, FieldRead, NodeWritten, EdgeRead, EdgeWritten, RecordWritten};
 ghost use Rattle.layout.specs.Rows.{digit, flagsWord};
 
 pub const NODE_WORDS: usize = 8;
 
 pub const EDGE_WORDS: usize = 5;
+
+pub const RECORD_WORDS: usize = 68;
+
+// A record's path has so many places, one byte to a word.
+pub const PATH_ROOM: usize = 64;
 
 // The number of a node: its row in the node table.
 pub struct NodeId(pub usize);
@@ -139,4 +145,43 @@ pub fn read_value(nodes: &[u64], n: NodeId) -> u64
     ensures { λ r. ⌜ FieldRead (now (nodes .entry)) (n .0) (λ x. x .value) r ⌝ }
 {
     nodes[n.0 * NODE_WORDS + 2]
+}
+
+// Each byte as a word of its own, from place `from` on.
+fn write_path(list: &mut [u64], from: usize, bytes: [u8; 64])
+    requires { ⌜ from + 64 ≤ length (now list) ⌝ }
+    ensures { λ _. ⌜ now (list .exit) ≡ paste (now (list .entry)) from bytes 64 ⌝ }
+{
+    let mut i = 0;
+    while i < PATH_ROOM {
+        list[from + i] = wide(bytes[i]);
+        i += 1;
+    }
+}
+
+fn wide(b: u8) -> u64
+    ensures { λ r. ⌜ r ≡ b ⌝ }
+{
+    b as u64
+}
+
+// Writes record number r of a list behind those that are there, `bytes` its path with 0 in the places past it.
+pub fn write_record(
+    list: &mut [u64],
+    r: usize,
+    capacity: u64,
+    value: u64,
+    bound: u64,
+    depth: u64,
+    bytes: [u8; 64],
+)
+    requires { ⌜ r * 68 + 68 ≤ length (now list) ⌝ }
+    ensures { λ _. ⌜ RecordWritten (now (list .entry)) r capacity value bound depth bytes (now (list .exit)) ⌝ }
+{
+    let at = r * RECORD_WORDS;
+    list[at] = capacity;
+    list[at + 1] = value;
+    list[at + 2] = bound;
+    list[at + 3] = depth;
+    write_path(list, at + 4, bytes);
 }

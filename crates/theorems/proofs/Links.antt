@@ -108,7 +108,7 @@ arrow-keep : (d e : Diagram) (x : Edge) → d .start ≤ e .start → d .start �
 arrow-keep d e x l h n k a = record { from-in = omega (arith, a .from-in); to-in = omega (arith, a .to-in); rises = a .rises; deeper = k (x .to) (a .to-in) ∙ a .deeper ∙ ap suc (sym (k (x .from) (omega (arith, a .from-in)))) }
 
 -- rows that keep their links, in tables with the same edges
-same-wired : (d e : Diagram) → d .start ≤ length (d .nodes) → e .edges ≡ d .edges → d .start ≤ e .start → length (e .nodes) ≡ length (d .nodes) → ((r : ℕ) → r < length (d .nodes) → SameLinks (nodeAt (d .nodes) r) (nodeAt (e .nodes) r)) → Wired d → Wired e
+pub same-wired : (d e : Diagram) → d .start ≤ length (d .nodes) → e .edges ≡ d .edges → d .start ≤ e .start → length (e .nodes) ≡ length (d .nodes) → ((r : ℕ) → r < length (d .nodes) → SameLinks (nodeAt (d .nodes) r) (nodeAt (e .nodes) r)) → Wired d → Wired e
 same-wired d e sl eq st ln k w =
     let el = ap (length {A = Edge}) eq in
     record {
