@@ -16,10 +16,11 @@ FIGURES = {
     "Traps": "crates/diagram/specs/Traps.antt",
     "Calls": "crates/calls/specs/Figures.antt",
     "Layout": "crates/layout/specs/Figures.antt",
+    "Searches": "crates/searches/specs/Figures.antt",
 }
 STARRED = "crates/diagram/specs/Starred.antt"
 NOTHING = "Text that promises nothing"
-DEFINED = r"(?m)^\s*(?:(?:abbrev|unfoldable|pub|record|data|fn)\s+)*{}(?=[\s:(])"
+DEFINED = r"(?m)^\s*(?:(?:abbrev|unfoldable|pub|record|data|fn|struct|enum)\s+)*{}(?=[\s:(])"
 faults = []
 
 
@@ -72,7 +73,7 @@ def check_names(number, cell):
 
 def check_tests(number, cell, cited):
     file = None
-    for word, quote in re.findall(r'\b(Traps|Calls|Layout)\b|"([^"]+)"', cell):
+    for word, quote in re.findall(r'\b(Traps|Calls|Layout|Searches)\b|"([^"]+)"', cell):
         if word:
             file = FIGURES[word]
         elif file is None:

@@ -82,6 +82,10 @@ more-view q m m′ c (halted n d e f) a h k r = let z : _≡_ {A = ℕ} 0 1 = cc
 more-view q m m′ c (overfull o e f g) a h k r = let z : _≡_ {A = ℕ} 0 1 = cc in absurd (omega arith)
 more-view q m m′ c (done o e f g) a h k r = sym (done-effect q m′ o e (more-runs q m m′ o h k f) (omega arith))
 
+-- the effect itself is the same
+pub more-room-effect : (q : Request) (m m′ : Rooms) (c : Compiled) → compileEffect q m .answer ≡ compiled c → m .nodes ≤ m′ .nodes → m .edges ≤ m′ .edges → m .records ≤ m′ .records → compileEffect q m ≡ compileEffect q m′
+more-room-effect q m m′ c e a b r = more-view q m m′ c (view q m) e a b r
+
 pub more-room-changes-nothing : MoreRoom
 more-room-changes-nothing q l l′ c e r =
     same-effect q l l′ (more-view q (roomsOf l) (roomsOf l′) c (view q (roomsOf l)) (sym (compile-answers q l) ∙ e) (r .nodes) (r .edges) (r .records))

@@ -2,11 +2,11 @@
 use mathlib.Core.Path.{_≡_, refl, sym, ap, subst, _∙_}
 use mathlib.Core.Bool.{Bool, true, false, cond}
 use mathlib.Core.List.{List, [], _∷_, _++_, map, append-nil}
-use Prim.Native.Nat.{ℕ, zero, suc, _+_, _*_, _<_, _≤_}
+use Prim.Native.Nat.{ℕ, zero, suc, _+_, _-_, _*_, _<_, _≤_}
 use native.Mathlib.Nat.{suc-mul}
 use native.Mathlib.Omega.{arith}
 use lib.ListN.{length, getD, take, drop, length-append, length-drop, length-map}
-use lib.Seq.{take-all, take-append-le}
+use lib.Seq.{take-all, take-append-le, drop-append-le}
 use Rattle.knapsack.proofs.Cases.{by-test}
 use Rattle.diagram.specs.Record.{Record, pathRoom, padded}
 use Rattle.diagram.specs.Node.{Node, Edge, nodeAt, edgeAt}
@@ -29,7 +29,7 @@ use Rattle.finish.specs.Paths.{PathFits, PathWritten}
 use Rattle.finish.specs.declared.Path.{Path}
 use Rattle.cutset.specs.declared.Wanted.{Wanted}
 use Rattle.cutset.specs.Views.{withCutset, uncut, uncuts}
-use Rattle.cutset.specs.Trace.{recordPath, drainedOf, Settled, Handed, Trace, Tracing, Inside, HandedOn}
+use Rattle.cutset.specs.Trace.{recordPath, drainedOf, windowOf, Settled, Handed, Trace, Tracing, Inside, HandedOn}
 use Rattle.cutset.proofs.Commute.{view-at}
 
 -- ---- rows that look alike without their cutset flags
@@ -121,10 +121,37 @@ drain-unmarked : (pre : List ℕ) (d : Diagram) (best : ℕ) (rs : List ℕ) (r 
 unfolding drainRows
 drain-unmarked pre d best rs r m = drain-append pre d best rs r ∙ rw (m, append-nil)
 
-roomy-take : (n : ℕ) (rs : List Record) → Roomy rs → Roomy (take n rs)
-roomy-take zero rs h = tt
-roomy-take (suc n) [] h = tt
-roomy-take (suc n) (r ∷ rs) h = (h .0, roomy-take n rs (h .1))
+-- ---- the records that are wanted
+
+roomy-drop : (n : ℕ) (rs : List Record) → Roomy rs → Roomy (drop n rs)
+roomy-drop zero rs h = h
+roomy-drop (suc n) [] h = tt
+roomy-drop (suc n) (r ∷ rs) h = roomy-drop n rs (h .1)
+
+drop-past : (n : ℕ) (xs : List Record) → length xs ≤ n → drop n xs ≡ []
+drop-past zero [] h = refl
+drop-past zero (x ∷ xs) h = absurd (omega arith)
+drop-past (suc n) [] h = refl
+drop-past (suc n) (x ∷ xs) h = drop-past n xs (omega arith)
+
+-- one record more, before those that are wanted, behind them, and one of them
+window-before : (w : Wanted) (xs : List Record) (x : Record) → length xs < w .first → windowOf w (xs ++ (x ∷ [])) ≡ windowOf w xs
+window-before w xs x h =
+    let l : length (xs ++ (x ∷ [])) ≡ suc (length xs) = simp length-append (omega arith) in
+    ap (take (w .room)) (drop-past (w .first) (xs ++ (x ∷ [])) (omega arith) ∙ sym (drop-past (w .first) xs (omega arith)))
+
+window-behind : (w : Wanted) (xs : List Record) (x : Record) → w .first ≤ length xs → w .room ≤ length xs - w .first → windowOf w (xs ++ (x ∷ [])) ≡ windowOf w xs
+window-behind w xs x a b =
+    ap (take (w .room)) (drop-append-le (w .first) xs (x ∷ []) a) ∙ take-append-le (w .room) (drop (w .first) xs) (x ∷ []) (simp length-drop b)
+
+-- all from the first on, where these are no more than there is room for
+window-all : (w : Wanted) (xs : List Record) → length xs - w .first ≤ w .room → windowOf w xs ≡ drop (w .first) xs
+window-all w xs h = take-all (w .room) (drop (w .first) xs) (simp length-drop h)
+
+window-more : (w : Wanted) (xs : List Record) (x : Record) → w .first ≤ length xs → length xs - w .first < w .room → windowOf w (xs ++ (x ∷ [])) ≡ drop (w .first) xs ++ (x ∷ [])
+window-more w xs x a b =
+    let l : length (xs ++ (x ∷ [])) ≡ suc (length xs) = simp length-append (omega arith) in
+    window-all w (xs ++ (x ∷ [])) (omega arith) ∙ drop-append-le (w .first) xs (x ∷ []) a
 
 -- ---- the tables of a traversal hold a diagram
 
@@ -153,7 +180,7 @@ module _ (w : Wanted) (d : Diagram) (oldN oldE oldR : List ℕ) (c : Cutset) (co
   edge-words = rw (t .edges-are) (omega (arith, length-words encodeEdge edgeWords edge-width (d .edges), over-long (edgeTable (d .edges)) oldE .0))
 
   pub record-words : w .room * 68 ≤ length rs
-  record-words = rw (t .handed .records-are) (omega (arith, z .record-room, over-long (recordTable (take (w .room) (drainedOf w d (c .listed)))) oldR .1))
+  record-words = rw (t .handed .records-are) (omega (arith, z .record-room, over-long (recordTable (windowOf w (drainedOf w d (c .listed)))) oldR .1))
 
   sits : Sits (countsOf (withNodes d (c .nodes))) ns es
   unfolding withNodes
@@ -193,9 +220,9 @@ module _ (w : Wanted) (d : Diagram) (oldN oldE oldR : List ℕ) (c : Cutset) (co
   pub row-alike : (r : ℕ) (n : Node) → r < length (d .nodes) → NodeRead ns r n → Alike n (nodeAt (d .nodes) r)
   row-alike r n h read = rw (row-is r n h read) (alike-at (c .nodes) (d .nodes) r (t .same))
 
--- ---- the three ways of handing a row on
+-- ---- the ways of handing a row on
 
-handed-at : (w : Wanted) (d : Diagram) (oldR listed : List ℕ) (xs : List Record) (count : ℕ) (rs : List ℕ) → drainedOf w d listed ≡ xs → count ≡ length xs → rs ≡ over (recordTable (take (w .room) xs)) oldR → Roomy xs → Handed w d oldR listed count rs
+handed-at : (w : Wanted) (d : Diagram) (oldR listed : List ℕ) (xs : List Record) (count : ℕ) (rs : List ℕ) → drainedOf w d listed ≡ xs → count ≡ length xs → rs ≡ over (recordTable (windowOf w xs)) oldR → Roomy xs → Handed w d oldR listed count rs
 handed-at w d oldR listed xs count rs e k r y = record { count-is = rw e k; records-are = rw e r; roomy = rw e y }
 
 record-fits : (w : Wanted) (d : Diagram) (oldR : List ℕ) (r : ℕ) → Settled w d oldR → r < length (d .nodes) → length (drainedRecord (recordPath w) d (w .best) r .path) ≤ pathRoom
@@ -212,8 +239,9 @@ unmarked-on w r count ns es rs n read m =
       grows = omega arith;
     }
 
-pub counted-on : (w : Wanted) (r count : ℕ) (ns es rs : List ℕ) (n : Node) → NodeRead ns r n → n .marked ≡ true → w .room ≤ count → HandedOn w r count ns es rs (count + 1) rs
-counted-on w r count ns es rs n read m full =
+-- its record is not wanted
+counted-on : (w : Wanted) (r count : ℕ) (ns es rs : List ℕ) (n : Node) → NodeRead ns r n → n .marked ≡ true → ((xs : List Record) (x : Record) → count ≡ length xs → windowOf w (xs ++ (x ∷ [])) ≡ windowOf w xs) → HandedOn w r count ns es rs (count + 1) rs
+counted-on w r count ns es rs n read m out =
     record {
       does = λ d oldN oldE oldR c z t h.
           let a = row-alike w d oldN oldE oldR c count ns es rs z t r n h read in
@@ -223,29 +251,38 @@ counted-on w r count ns es rs n read m full =
           let k = t .handed .count-is in
           let l : length (xs ++ (x ∷ [])) ≡ suc (length xs) = simp length-append (omega arith) in
           handed-at w d oldR (c .listed ++ (r ∷ [])) (xs ++ (x ∷ [])) (count + 1) rs e (omega arith)
-          (rw (take-append-le (w .room) xs (x ∷ []) (omega arith)) (t .handed .records-are))
+          (t .handed .records-are ∙ ap (λ (y : List Record). over (recordTable y) oldR) (sym (out xs x k)))
           (roomy-snoc xs x (t .handed .roomy) (record-fits w d oldR r z h));
       grows = omega arith;
     }
 
-pub written-on : (w : Wanted) (r count : ℕ) (ns es rs : List ℕ) (n : Node) (p : Path) (bound : ℕ) (rs′ : List ℕ) → NodeRead ns r n → n .marked ≡ true → count < w .room → PathWritten ns es r (recordPath w) p → bound ≡ drainedBound (w .best) n → RecordWritten rs count (n .capacity) (n .value) bound (n .depth) (p .bytes) rs′ → HandedOn w r count ns es rs (count + 1) rs′
+pub before-on : (w : Wanted) (r count : ℕ) (ns es rs : List ℕ) (n : Node) → NodeRead ns r n → n .marked ≡ true → count < w .first → HandedOn w r count ns es rs (count + 1) rs
+before-on w r count ns es rs n read m h =
+    counted-on w r count ns es rs n read m (λ xs x k. window-before w xs x (omega arith))
+
+pub behind-on : (w : Wanted) (r count : ℕ) (ns es rs : List ℕ) (n : Node) → NodeRead ns r n → n .marked ≡ true → w .first ≤ count → w .room ≤ count - w .first → HandedOn w r count ns es rs (count + 1) rs
+behind-on w r count ns es rs n read m a b =
+    counted-on w r count ns es rs n read m (λ xs x k. window-behind w xs x (omega arith) (omega arith))
+
+pub written-on : (w : Wanted) (r count : ℕ) (ns es rs : List ℕ) (n : Node) (p : Path) (bound : ℕ) (rs′ : List ℕ) → NodeRead ns r n → n .marked ≡ true → w .first ≤ count → count - w .first < w .room → PathWritten ns es r (recordPath w) p → bound ≡ drainedBound (w .best) n → RecordWritten rs (count - w .first) (n .capacity) (n .value) bound (n .depth) (p .bytes) rs′ → HandedOn w r count ns es rs (count + 1) rs′
 unfolding drainedRecord
-written-on w r count ns es rs n p bound rs′ read m free path b g =
+written-on w r count ns es rs n p bound rs′ read m from free path b g =
     record {
       does = λ d oldN oldE oldR c z t h.
           let a = row-alike w d oldN oldE oldR c count ns es rs z t r n h read in
           let pre = recordPath w in
           let x = drainedRecord pre d (w .best) r in
           let xs = drainedOf w d (c .listed) in
+          let ys = drop (w .first) xs in
           let e = drain-marked pre d (w .best) (c .listed) r (sym (a .marked) ∙ m) in
           let k = t .handed .count-is in
           let l : length (xs ++ (x ∷ [])) ≡ suc (length xs) = simp length-append (omega arith) in
-          let all : take (w .room) xs ≡ xs = take-all (w .room) xs (omega arith) in
-          let q : rs′ ≡ over (recordTable (xs ++ (recordFrom (w .best) n (pathTo pre d r) ∷ []))) oldR =
-          (rw b at g) .appended xs oldR (pathTo pre d r) (t .handed .records-are ∙ ap (λ (y : List Record). over (recordTable y) oldR) all) (t .handed .roomy) k (omega (arith, z .record-room, suc-mul count recordWords)) (z .paths r h) (path-is w d oldN oldE oldR c count ns es rs z t r p h path) in
+          let place : count - w .first ≡ length ys = simp length-drop (omega arith) in
+          let q : rs′ ≡ over (recordTable (ys ++ (recordFrom (w .best) n (pathTo pre d r) ∷ []))) oldR =
+          (rw b at g) .appended ys oldR (pathTo pre d r) (t .handed .records-are ∙ ap (λ (y : List Record). over (recordTable y) oldR) (window-all w xs (omega arith))) (roomy-drop (w .first) xs (t .handed .roomy)) place (omega (arith, z .record-room, suc-mul (count - w .first) recordWords)) (z .paths r h) (path-is w d oldN oldE oldR c count ns es rs z t r p h path) in
           let same : recordFrom (w .best) n (pathTo pre d r) ≡ x = from-same (w .best) n (nodeAt (d .nodes) r) _ _ a refl in
           handed-at w d oldR (c .listed ++ (r ∷ [])) (xs ++ (x ∷ [])) (count + 1) rs′ e (omega arith)
-          (q ∙ rw (same, take-all (w .room) (xs ++ (x ∷ [])) (omega arith)))
+          (q ∙ rw (same, window-more w xs x (omega arith) (omega arith)))
           (roomy-snoc xs x (t .handed .roomy) (record-fits w d oldR r z h));
       grows = omega arith;
     }
@@ -256,7 +293,7 @@ pub path-asked : (w : Wanted) (r count : ℕ) (ns es rs : List ℕ) → Tracing 
 path-asked w r count ns es rs g =
     (path-fits w (g .diagram) (g .oldN) (g .oldE) (g .oldR) (g .cut) count ns es rs (g .settled) (g .trace) r (g .asked), g .settled .depth-in)
 
-pub place-asked : (P : Diagram → Cutset → Type 0) (w : Wanted) (count : ℕ) (ns es rs : List ℕ) → Tracing P w count ns es rs → count < w .room → count * 68 + 68 ≤ length rs
-place-asked P w count ns es rs g h =
+pub place-asked : (P : Diagram → Cutset → Type 0) (w : Wanted) (count : ℕ) (ns es rs : List ℕ) (place : ℕ) → Tracing P w count ns es rs → place < w .room → place * 68 + 68 ≤ length rs
+place-asked P w count ns es rs place g h =
     let n = record-words w (g .diagram) (g .oldN) (g .oldE) (g .oldR) (g .cut) count ns es rs (g .settled) (g .trace) in
     omega arith

@@ -11,8 +11,9 @@ ghost use Rattle.cutset.specs.Views.{withCutset};
 ghost use Rattle.cutset.specs.Trace.{Inside, Upto, FewInside, FewLink, FewUpto, Tracing, Traced, HandedOn};
 ghost use Rattle.cutset.specs.Trace.{FewRanges, listing, listings, adding, alongEdges, ofRow, ofRows, ofLayers};
 ghost use Rattle.cutset.specs.Clearing.{Cleared};
-ghost use Rattle.cutset.specs.Whole.{kindOf, lastOf, counting, Shaped, cutsetFrom, Drainable, DrainedOff};
+ghost use Rattle.cutset.specs.Whole.{kindOf, counting, Shaped, cutsetFrom, Drainable, DrainedOff, Windowed, WindowDrained};
 ghost use Rattle.layers.specs.Stored.{Sized, stored};
+use layers::Last;
 use layers::Layers;
 use rows::EdgeId;
 use rows::Link;
@@ -24,9 +25,10 @@ const MID: u64 = 9223372036854775808;
 
 const TOP: u64 = 18446744073709551615;
 
-// What a traversal is asked: how many records the list has room for, the run's best value, and the path, with its length, of the
-// record that was compiled. A traversal without room flags and counts.
+// What a traversal is asked: the first record that is written, how many the list has room for, the run's best value, and the path,
+// with its length, of the record that was compiled. A traversal without room flags and counts.
 pub struct Wanted {
+    pub first: usize,
     pub room: usize,
     pub best: u64,
     pub path: [u8; 64],
@@ -37,12 +39,6 @@ pub struct Wanted {
 pub enum Kind {
     LastExactLayer,
     Frontier,
-}
-
-// The last exact layer: the rows from .. to, once there was a squash.
-pub enum Last {
-    Unsquashed,
-    After(usize, usize),
 }
 
 // How many records were drained; or they were more than the list has places for, and none was written.
@@ -85,7 +81,8 @@ fn drained_bound(n: Node, best: u64) -> u64
     )
 }
 
-// Row r is handed on: if it is marked it is counted, and its record is number `count` of the list, if the list has that place.
+// Row r is handed on: if it is marked it is counted, and its record, number `count` of all, is written if it is one of the `room`
+// records from number `first` on.
 fn hand_on(
     nodes: &[u64],
     edges: &[u64],
@@ -101,7 +98,11 @@ fn hand_on(
     if !n.marked {
         return count;
     }
-    if w.room <= count {
+    if count < w.first {
+        return count + 1;
+    }
+    let place = count - w.first;
+    if w.room <= place {
         return count + 1;
     }
     let path = w.path;
@@ -109,7 +110,7 @@ fn hand_on(
     let bytes = best.bytes;
     rows::write_record(
         records,
-        count,
+        place,
         n.capacity,
         n.value,
         drained_bound(n, w.best),
@@ -355,12 +356,33 @@ pub fn flag_cutset(
 {
     let path = w.path;
     let without_room = Wanted {
+        first: 0,
         room: 0,
         best: w.best,
         path: path,
         depth: w.depth,
     };
     traverse(nodes, edges, records, without_room, layers, kind, last)
+}
+
+// The records of a relaxed diagram of `count` nodes whose cutset is flagged: the `room` of them from number `first` on are written,
+// and how many there are in all is answered. A caller whose list is short fetches them part by part. The flags are cleared, since the
+// traversal lists what has none yet, and it sets them again.
+pub fn drain_window(
+    nodes: &mut [u64],
+    edges: &[u64],
+    records: &mut [u64],
+    count: usize,
+    w: Wanted,
+    layers: Layers,
+    kind: Kind,
+    last: Last,
+) -> usize
+    requires { ⌜ Windowed w layers last kind count (now nodes) (now edges) (now records) ⌝ }
+    ensures { λ n. ⌜ WindowDrained w layers last kind count (now (nodes .entry)) (now (edges .entry)) (now (records .entry)) n (now (nodes .exit)) (now (records .exit)) ⌝ }
+{
+    clear_flags(nodes, count);
+    traverse(nodes, edges, records, w, layers, kind, last)
 }
 
 // The cutset of a relaxed diagram of `count` nodes that has a best value, flagged and drained. The records are counted before any
@@ -382,7 +404,6 @@ pub fn drain(
     if w.room < found {
         return Drained::TooMany;
     }
-    clear_flags(nodes, count);
-    let written = traverse(nodes, edges, records, w, layers, kind, last);
+    let written = drain_window(nodes, edges, records, count, w, layers, kind, last);
     Drained::Records(written)
 }

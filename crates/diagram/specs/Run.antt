@@ -7,6 +7,11 @@ use Rattle.diagram.specs.Tables.{Diagram}
 pub data Mode : Type 0 where
   exactly restricted relaxing : Mode
 
+abbrev pub isRelaxing : Mode → Bool
+isRelaxing exactly = false
+isRelaxing restricted = false
+isRelaxing relaxing = true
+
 -- What a run is told beside its items and its record: mode, width, lower bound (an i64, as a word), and the rows lent.
 pub record Settings : Type 0 where
   pub mode : Mode

@@ -27,7 +27,7 @@ pushed p b h =
     rw (l, z, set-at p 0 (replicate (pathRoom - suc (length p)) 0) b (length p) refl) (sym (append-assoc p (b ∷ []) (replicate (pathRoom - suc (length p)) 0)))
 
 -- the first places of a record's path
-pub one-kept : (path bytes : List ℕ) (i : ℕ) → i < pathRoom → pathRoom ≤ length path → bytes ≡ padded (take i path) → set bytes i (getD path i 0) ≡ padded (take (i + 1) path)
+pub one-kept : (path bytes : List ℕ) (i : ℕ) → i < pathRoom → i < length path → bytes ≡ padded (take i path) → set bytes i (getD path i 0) ≡ padded (take (i + 1) path)
 one-kept path bytes i h l e =
     let z : i + 1 ≡ suc i = omega arith in
     let q : length (take i path) ≡ i = length-take-le i path (omega arith) in

@@ -7,7 +7,7 @@ use native.Mathlib.Omega.{arith}
 use lib.ListN.{length, getD, length-set}
 use Rattle.words.specs.I64.{mid}
 use Rattle.diagram.specs.Node.{Node, Edge, nodeAt, update, markedWith}
-use Rattle.diagram.specs.Run.{Mode, exactly, restricted, relaxing}
+use Rattle.diagram.specs.Run.{Mode, exactly, restricted, relaxing, isRelaxing}
 use Rattle.diagram.specs.Tables.{Diagram, Range, LastExact, unsquashed, squashedAfter, withNodes, rowsFrom, rowsOf}
 use Rattle.diagram.specs.After5.{groundRows, groundLayer, raiseRows, raiseLayers, boundsIf, localBounds}
 use Rattle.branch.specs.declared.Counts.{Counts}
@@ -15,7 +15,6 @@ use Rattle.layers.specs.declared.Layers.{Layers}
 use Rattle.layers.specs.Stored.{firstOnes, stored}
 use Rattle.theorems.proofs.Links.{Wired, update-wired}
 use Rattle.finish.specs.Sits.{Sits, Row}
-use Rattle.finish.specs.Walks.{isRelaxing}
 use Rattle.finish.specs.Bounds.{LayerGrounded, Rewritten, raisedRow, RowRaised, Upto, LayerRaised, Ranged, Layered, LayersRaised, wasSquashed, BoundsComputed}
 use Rattle.finish.proofs.Rewriting.{goes-on, unwritten, then-written, ground-links, ground-long}
 

@@ -6,7 +6,7 @@ use Prim.Native.Nat.{ℕ, zero, suc, _+_, _-_, _*_, _<_, _≤_}
 use native.Mathlib.Omega.{arith}
 use lib.ListN.{length}
 use Rattle.diagram.specs.Node.{Node, Edge, nodeAt, edgeAt}
-use Rattle.diagram.specs.Run.{Mode, exactly, restricted, relaxing}
+use Rattle.diagram.specs.Run.{Mode, exactly, restricted, relaxing, isRelaxing}
 use Rattle.diagram.specs.Tables.{Diagram, Found, at, nowhere}
 use Rattle.diagram.specs.After1.{bestNode, parentBy, walkUp, exactPath}
 use Rattle.rows.specs.declared.NodeId.{NodeId}
@@ -18,7 +18,7 @@ use Rattle.finish.specs.declared.Best.{Best}
 use Rattle.finish.specs.declared.Best.the-variants as Answer
 use Rattle.finish.specs.Terminals.{rowOf, Within}
 use Rattle.finish.specs.Sits.{Sits, Row}
-use Rattle.finish.specs.Walks.{WalkedUp, Ranked, isRelaxing, PathJudged}
+use Rattle.finish.specs.Walks.{WalkedUp, Ranked, PathJudged}
 
 -- ---- what is read is a row of the diagram
 

@@ -5,7 +5,7 @@ use mathlib.Core.List.{List}
 use Prim.Native.Nat.{ℕ, _-_, _<_, _≤_}
 use lib.ListN.{length, getD}
 use Rattle.diagram.specs.Node.{Node, Edge, nodeAt, update}
-use Rattle.diagram.specs.Run.{Mode}
+use Rattle.diagram.specs.Run.{Mode, isRelaxing}
 use Rattle.diagram.specs.Tables.{LastExact, unsquashed, squashedAfter, withNodes, rowsFrom, inbound}
 use Rattle.diagram.specs.After5.{groundRows, raiseParents, raiseRows, raiseLayers, localBounds}
 use Rattle.layout.specs.Table.{over}
@@ -15,7 +15,6 @@ use Rattle.layers.specs.declared.Layers.{Layers}
 use Rattle.layers.specs.Stored.{Sized, stored}
 use Rattle.theorems.proofs.Links.{Wired}
 use Rattle.finish.specs.Sits.{Sits}
-use Rattle.finish.specs.Walks.{isRelaxing}
 
 -- row r of table t is changed by f, which gives u
 pub record RowChanged (f : Node → Node) (r : ℕ) (t u : List ℕ) : Type 0 where

@@ -4,7 +4,7 @@ use mathlib.Core.Bool.{Bool, true, false}
 use mathlib.Core.List.{List}
 use Prim.Native.Nat.{ℕ, _+_, _<_, _≤_}
 use lib.ListN.{length}
-use Rattle.diagram.specs.Run.{Mode, exactly, restricted, relaxing}
+use Rattle.diagram.specs.Run.{Mode, exactly, restricted, relaxing, isRelaxing}
 use Rattle.diagram.specs.Tables.{at}
 use Rattle.diagram.specs.After1.{bestNode, walkUp, exactPath}
 use Rattle.branch.specs.declared.Counts.{Counts}
@@ -21,11 +21,6 @@ pub record Ranked (ns es : List ℕ) (best : Best) : Type 0 where
   pub counts : Counts
   pub sits : Sits counts ns es
   pub inside : Within 0 (length (sits .diagram .nodes)) best
-
-abbrev pub isRelaxing : Mode → Bool
-isRelaxing exactly = false
-isRelaxing restricted = false
-isRelaxing relaxing = true
 
 -- b: whether the best path is exact, in a mode that is relaxed or not
 pub record PathJudged (ns es : List ℕ) (best : Best) (relaxed b : Bool) : Type 0 where

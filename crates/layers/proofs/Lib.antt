@@ -1,2 +1,3 @@
 -- Laws of stored layers.
 pub mod Stored
+pub mod Whole

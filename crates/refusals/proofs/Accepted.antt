@@ -68,3 +68,11 @@ compile-before p g n e = sym (first-before (problemChecks p) (recordChecks p g) 
 pub compile-behind : (p : Problem) (g : Given) (r : Option ℕ) → firstOf (problemChecks p) ≡ none → r ≡ firstOf (recordChecks p g) → r ≡ compileRefusal p g
 unfolding compileRefusal
 compile-behind p g r e h = h ∙ sym (first-behind (problemChecks p) (recordChecks p g) e)
+
+-- a compile that is not refused has passed 1 to 6
+pub compile-passed : (p : Problem) (g : Given) → compileRefusal p g ≡ none → Passed p
+compile-passed p g e = go (firstOf (problemChecks p)) refl
+  where
+    go : (x : Option ℕ) → firstOf (problemChecks p) ≡ x → Passed p
+    go none h = passed p h
+    go (some n) h = let q : some n ≡ none = compile-before p g n h ∙ e in let z : _≡_ {A = ℕ} 0 1 = cc in absurd (omega arith)

@@ -19,6 +19,8 @@ use Rattle.diagram.specs.Rule5.{withLast, squashIf, squash}
 use Rattle.diagram.specs.Rule6.{Squashed, layer, halted, deleteAll, restrict, copyEdges, mergeAll, squashed, squashNeed, keepFirst, mergeInto, relax, merge}
 use Rattle.diagram.specs.Run.{Mode, exactly, restricted, relaxing, Settings, Run, going, stopped, andThen, need, onlyIf}
 use Rattle.diagram.specs.Tables.{Range, LastExact, unsquashed, squashedAfter, Diagram, Found, at, nowhere, withNodes, rowsOf, inbound}
+use Rattle.theorems.proofs.Holds as Rest
+use Rattle.theorems.proofs.Holds.{Holds, held, void, SquashHolds, settled}
 use Rattle.theorems.proofs.Local.{bounds-dressed}
 
 -- the numbers that a run can stop with
@@ -71,6 +73,10 @@ unfolding squashed
 squashed-within f l k (goes {d = d} p) = leaves (k d p)
 squashed-within f l k (stops n p) = halts n p
 
+within-holds : {a b : ℕ} {x : Squashed} → SquashWithin a b x → SquashHolds (λ e _. Fits a b e) x
+within-holds (leaves p) = settled p
+within-holds (halts n p) = Rest.halts
+
 -- ---- what is written
 
 module _ (a b : ℕ) where
@@ -98,11 +104,11 @@ module _ (a b : ℕ) where
   unfolding store
   store-fits d p = record { nodes-fit = p .nodes-fit; edges-fit = p .edges-fit }
 
-  empty-fits : (d : Diagram) → Fits a b d → Fits a b (storeEmpty d)
+  pub empty-fits : (d : Diagram) → Fits a b d → Fits a b (storeEmpty d)
   unfolding storeEmpty
   empty-fits d p = record { nodes-fit = p .nodes-fit; edges-fit = p .edges-fit }
 
-  ended-fits : (t : Bool) (d : Diagram) → Fits a b d → Fits a b (storeLast t d)
+  pub ended-fits : (t : Bool) (d : Diagram) → Fits a b d → Fits a b (storeLast t d)
   unfolding storeLast
   ended-fits true d p = record { nodes-fit = p .nodes-fit; edges-fit = p .edges-fit }
   ended-fits false d p = p
@@ -186,10 +192,28 @@ module _ (opts : Settings) where
   squash-within restricted rows d q = squashIf-within _ _ _ (leaves (delete-fits _ _ (withLast d) _ (last-fits _ _ d q))) (leaves q)
   squash-within relaxing rows d q = squashIf-within _ _ _ (into-within _ _ _ _ (withLast d) (last-fits _ _ d q)) (leaves q)
 
+  -- the two squashes by themselves
+  pub restrict-fits : (rows : List ℕ) (d : Diagram) → Fit d → SquashHolds (λ e _. Fit e) (restrict opts rows d)
+  unfolding restrict
+  restrict-fits rows d q = settled (delete-fits _ _ d _ q)
+
+  pub relax-fits : (rows : List ℕ) (d : Diagram) → Fit d → SquashHolds (λ e _. Fit e) (relax opts rows d)
+  unfolding relax merge
+  relax-fits rows d q = within-holds (into-within _ _ _ _ d q)
+
   expanded-within : (left : List Item) (i : Item) (k : ℕ) {x : Squashed} → SquashWithin (opts .nodeRoom) (opts .edgeRoom) x → Ok (expandSquashed x opts left i k)
   unfolding expandSquashed
   expanded-within left i k (leaves {d = d} {l = l} q) = all-within left i k l (store d) (store-fits _ _ d q)
   expanded-within left i k (halts n q) = stops n q
+
+  -- and a layer's whole step
+  pub step-fits : (left : List Item) (i : Item) (k : ℕ) (d : Diagram) → Fit d → Holds Fit (layerStep opts left i k d)
+  unfolding layerStep
+  step-fits left i k d q = goes-holds (expanded-within left i k (squash-within (opts .mode) (ordered d) d q))
+    where
+      goes-holds : {x : Run} → Ok x → Holds Fit x
+      goes-holds (goes p) = held p
+      goes-holds (stops n p) = void
 
   grow-within : (is : List Item) (k : ℕ) (d : Diagram) → Fit d → Ok (grow opts is k d)
   unfolding grow layerStep
@@ -197,7 +221,7 @@ module _ (opts : Settings) where
   grow-within (i ∷ is) k d q =
       only-within _ _ _ (then-within _ (expanded-within (i ∷ is) i k (squash-within (opts .mode) (ordered d) d q)) (λ e z. grow-within is (suc k) e z)) (empty-fits _ _ d q)
 
-  root-fits : (r : Record) → 0 < opts .nodeRoom → Fit (rootOnly r)
+  pub root-fits : (r : Record) → 0 < opts .nodeRoom → Fit (rootOnly r)
   unfolding rootOnly
   root-fits r h = record { nodes-fit = h; edges-fit = omega arith }
 
@@ -242,7 +266,7 @@ unfolding frontierLayers
 layers-long es [] c = refl
 layers-long es (l ∷ ls) c = layers-long es ls _ ∙ front-long es (rowsOf l) c
 
-of-long : (k : CutsetKind) (d : Diagram) → length ((cutsetOf k d) .nodes) ≡ length (d .nodes)
+pub of-long : (k : CutsetKind) (d : Diagram) → length ((cutsetOf k d) .nodes) ≡ length (d .nodes)
 unfolding cutsetOf noCutset
 of-long lastExactLayer d = layer-long (d .last) (noCutset d)
 of-long frontier d = layers-long (d .edges) (d .layers) (noCutset d)
@@ -258,7 +282,7 @@ pub outcome-long : (m : Mode) (k : CutsetKind) (d : Diagram) → (length (outcom
 unfolding outcome withNodes
 outcome-long m k d = (bounds-dressed m d (cutsetFor m k d .nodes) .long ∙ cut-long m k d, refl)
 
-outcome-fits : (a b : ℕ) (m : Mode) (k : CutsetKind) (d : Diagram) → Fits a b d → Fits a b (outcome m k d .diagram)
+pub outcome-fits : (a b : ℕ) (m : Mode) (k : CutsetKind) (d : Diagram) → Fits a b d → Fits a b (outcome m k d .diagram)
 outcome-fits a b m k d p =
     let l = outcome-long m k d in
     record { nodes-fit = omega (arith, l .0, p .nodes-fit); edges-fit = omega (arith, ap (length {A = Edge}) (l .1), p .edges-fit) }

@@ -33,3 +33,6 @@ pub mod Leads
 pub mod Rooms
 pub mod Ten
 pub mod Fits
+pub mod Frames
+pub mod Once
+pub mod Enough

@@ -286,7 +286,7 @@ last-coming : (k : ℕ) (d : Diagram) → Coming k d → Coming k (withLast d)
 unfolding withLast
 last-coming k d g = record { deps = g .deps; lives = g .lives; caps = g .caps }
 
-last-parted : (d : Diagram) (kept rest : List ℕ) → Parted d kept rest → Parted (withLast d) kept rest
+pub last-parted : (d : Diagram) (kept rest : List ℕ) → Parted d kept rest → Parted (withLast d) kept rest
 unfolding withLast
 last-parted d kept rest pt = record { covers = pt .covers; kept-in = pt .kept-in; rest-in = pt .rest-in; apart = pt .apart }
 

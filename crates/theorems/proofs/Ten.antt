@@ -25,7 +25,7 @@ use Rattle.theorems.proofs.Sort.{ordered-length}
 use Rattle.theorems.proofs.Layers.{first}
 
 -- P of the tables where the run goes on; where it stopped, the number isn't 10
-data Safe (P : Diagram → Type 0) : Run → Type 0 where
+pub data Safe (P : Diagram → Type 0) : Run → Type 0 where
   goes : {d : Diagram} → P d → Safe P (going d)
   other : {n : ℕ} {d : Diagram} → n ≢ 10 → Safe P (stopped n d)
 
@@ -124,7 +124,7 @@ merge-safe opts ls m [] d s = goes s
 merge-safe opts ls m (r ∷ rs) d s = then-safe {P = Stored ls} _ (copy-safe opts ls m (inbound (d .edges) r) (withNodes d (update (withDeleted true) (d .nodes) r)) s) (λ f q. merge-safe opts ls m rs f q)
 
 -- what a squash leaves: w rows to expand at most
-data SafeSquash (ls : List Range) (w : ℕ) : Squashed → Type 0 where
+pub data SafeSquash (ls : List Range) (w : ℕ) : Squashed → Type 0 where
   leaves : {d : Diagram} {l : List ℕ} → d .layers ≡ ls → length l ≤ w → SafeSquash ls w (layer d l)
   ends : {n : ℕ} {d : Diagram} → n ≢ 10 → SafeSquash ls w (halted n d)
 
@@ -192,10 +192,10 @@ squash-safe relaxing ne opts ls w n d hn s wide narrow early =
 -- ---- layer by layer
 
 -- 2 w rows at most in the coming layer; one in the first, two in the second
-record Narrow (w : ℕ) (d : Diagram) : Type 0 where
-  all : length (d .nodes) ≤ d .start + 2 * w
-  first : length (d .layers) ≡ 0 → length (d .nodes) ≤ d .start + 1
-  second : length (d .layers) ≤ 1 → length (d .nodes) ≤ d .start + 2
+pub record Narrow (w : ℕ) (d : Diagram) : Type 0 where
+  pub all : length (d .nodes) ≤ d .start + 2 * w
+  pub first : length (d .layers) ≡ 0 → length (d .nodes) ≤ d .start + 1
+  pub second : length (d .layers) ≤ 1 → length (d .nodes) ≤ d .start + 2
 
 store-small : (ls : List Range) (d : Diagram) → d .layers ≡ ls → Small (coming d ∷ ls) 0 (store d)
 unfolding store
@@ -210,18 +210,23 @@ squashed-narrow opts ls w n x left i k h hw h0 (leaves {d = d} {l = l} e c) =
     (all-safe opts (coming d ∷ ls) 0 left i k l (store d) (omega arith) (store-small ls d e))
 squashed-narrow opts ls w n x left i k h hw h0 (ends z) = other z
 
--- the rows to expand: one of the first layer, two of the second, w of any other
-step-narrow : (opts : Settings) (w : ℕ) (left : List Item) (i : Item) (k : ℕ) (d : Diagram) → opts .mode ≢ exactly → opts .width ≤ w → 2 ≤ w → w ≤ 256 → Narrow w d → Safe (Narrow w) (layerStep opts left i k d)
+-- the rows to expand are w at most
+pub squash-narrow : (opts : Settings) (w : ℕ) (d : Diagram) → opts .mode ≢ exactly → opts .width ≤ w → 2 ≤ w → w ≤ 256 → Narrow w d → SafeSquash (d .layers) w (squash (opts .mode) opts (ordered d) d)
+squash-narrow opts w d ne hw h2 h256 s =
+    let ol = ordered-length d in
+    squash-safe (opts .mode) ne opts (d .layers) w (2 * w) d (omega arith) (record { few = s .all; layers-are = refl }) (λ q. (hw, omega arith)) (λ q. omega arith) (λ q. omega (arith, s .second q))
+
+-- one of the first layer, two of the second, w of any other
+pub step-narrow : (opts : Settings) (w : ℕ) (left : List Item) (i : Item) (k : ℕ) (d : Diagram) → opts .mode ≢ exactly → opts .width ≤ w → 2 ≤ w → w ≤ 256 → Narrow w d → Safe (Narrow w) (layerStep opts left i k d)
 unfolding layerStep
 step-narrow opts w left i k d ne hw h2 h256 s =
     let ol = ordered-length d in
-    let sm : Small (d .layers) (2 * w) d = record { few = s .all; layers-are = refl } in
     by-test (λ _. Safe (Narrow w) (expandSquashed (squash (opts .mode) opts (ordered d) d) opts left i k)) (eqb (length (d .layers)) 0)
     (λ t. let f = s .first (eqb-true (length (d .layers)) 0 t) in
     squashed-narrow opts (d .layers) w 1 _ left i k (omega arith) h256 (λ _. omega arith)
-    (squash-safe (opts .mode) ne opts (d .layers) 1 (2 * w) d (omega arith) sm (λ q. (omega arith, omega arith)) (λ q. omega arith) (λ q. omega arith)))
+    (squash-safe (opts .mode) ne opts (d .layers) 1 (2 * w) d (omega arith) (record { few = s .all; layers-are = refl }) (λ q. (omega arith, omega arith)) (λ q. omega arith) (λ q. omega arith)))
     (λ t. squashed-narrow opts (d .layers) w w _ left i k (omega arith) h256 (λ q. absurd (eqb-false (length (d .layers)) 0 t q))
-    (squash-safe (opts .mode) ne opts (d .layers) w (2 * w) d (omega arith) sm (λ q. (hw, omega arith)) (λ q. omega arith) (λ q. omega (arith, s .second q))))
+    (squash-narrow opts w d ne hw h2 h256 s))
 
 grow-safe : (opts : Settings) (w : ℕ) (is : List Item) (k : ℕ) (d : Diagram) → opts .mode ≢ exactly → opts .width ≤ w → 2 ≤ w → w ≤ 256 → Narrow w d → Safe (λ _. Unit {0}) (grow opts is k d)
 unfolding grow
@@ -229,7 +234,7 @@ grow-safe opts w [] k d ne hw h2 h256 s = goes tt
 grow-safe opts w (i ∷ is) k d ne hw h2 h256 s =
     only-safe _ _ _ (λ _. then-safe _ (step-narrow opts w (i ∷ is) i k d ne hw h2 h256 s) (λ e q. grow-safe opts w is (suc k) e ne hw h2 h256 q)) tt
 
-root-narrow : (w : ℕ) (r : Record) → 2 ≤ w → Narrow w (rootOnly r)
+pub root-narrow : (w : ℕ) (r : Record) → 2 ≤ w → Narrow w (rootOnly r)
 unfolding rootOnly
 root-narrow w r h = record { all = omega arith; first = λ _. omega arith; second = λ _. omega arith }
 

@@ -1,5 +1,6 @@
 use mathlib.Core.Path.{refl}
 use Rattle.layers.specs.Stored.{stored, firstOnes}
+use Rattle.layers.proofs.Stored.{zeros}
 use Rattle.layers.proofs.none.Statement.{statement}
 use Rattle.layers.proofs.none.Tie as tie
 use Rattle.layers.proofs.none.Reads as reads
@@ -8,7 +9,7 @@ use Rattle.layers.proofs.none.Lts as lts
 -- src/lib.rt:16:1
 returns : tie.Need-returns
 unfolding stored firstOnes
-returns c = (record { from-sized = refl; to-sized = refl }, (refl, refl))
+returns c = (record { from-sized = refl; to-sized = refl; from-clear = λ i h. zeros 65 i; to-clear = λ i h. zeros 65 i }, (refl, refl))
 
 pub none-spec : {M : Type 1} → statement M
 none-spec = tie.close (tie.spec returns)

@@ -3,7 +3,7 @@ use mathlib.Core.Path.{refl}
 use native.Mathlib.Numerals.{add-one}
 use native.Mathlib.Omega.{arith}
 use Rattle.layers.specs.Stored.{stored}
-use Rattle.layers.proofs.Stored.{one-more}
+use Rattle.layers.proofs.Stored.{one-more, push-sized}
 use borrow.Author.Needs.{needs}
 use Rattle.layers.proofs.push.Statement.{statement}
 use Rattle.layers.proofs.push.Tie as tie
@@ -35,7 +35,7 @@ returns : tie.Need-returns
 unfolding stored
 returns c =
     let z = c .pre .0 in
-    (record { from-sized = simp length-set (z .from-sized); to-sized = simp length-set (z .to-sized) }, (rw add-one (one-more _ _ _ _ _ (omega (arith, z .from-sized, c .pre .1)) (omega (arith, z .to-sized, c .pre .1))), refl))
+    (push-sized (c .args .l) (c .args .from) (c .args .to) z, (rw add-one (one-more _ _ _ _ _ (omega (arith, z .from-sized, c .pre .1)) (omega (arith, z .to-sized, c .pre .1))), refl))
 
 pub push-spec : {M : Type 1} → statement M
 push-spec =

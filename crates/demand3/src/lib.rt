@@ -1,0 +1,1 @@
+// Demand 3 as statements over traces of a search (specs/), and their proofs (proofs/): no code.

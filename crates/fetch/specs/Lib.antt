@@ -1,0 +1,2 @@
+-- What `fetch` asks of the tables, and what it promises.
+pub mod Fetched

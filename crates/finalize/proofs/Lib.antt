@@ -1,0 +1,10 @@
+-- Laws of finalisation.
+pub mod Told
+pub mod Verdict
+pub mod Cut
+pub mod Outcomes
+pub mod LastLayer
+pub mod Standing
+pub mod Counting
+pub mod Grown
+pub mod Whole

@@ -1,0 +1,49 @@
+-- A list of record structs and its places: the list's operations on the one are those on the other.
+use mathlib.Core.Path.{_≡_, refl, ap}
+use mathlib.Core.List.{List, [], _∷_, _++_}
+use Prim.Native.Nat.{ℕ, zero, suc, _<_}
+use native.Mathlib.Nat.{le-of-suc-le-suc, not-suc-le-zero}
+use lib.ListN.{length, getD, set, take, drop, length-map}
+use Rattle.searches.specs.Places.{Place, noPlace}
+use Rattle.records.specs.declared.Record.{Record}
+use Rattle.records.specs.Structs.{placeFrom, places, noRecord}
+
+pub places-length : (rs : List Record) → length (places rs) ≡ length rs
+unfolding places
+places-length rs = length-map rs placeFrom
+
+pub places-append : (rs ts : List Record) → places (rs ++ ts) ≡ places rs ++ places ts
+unfolding places
+places-append [] ts = refl
+places-append (r ∷ rs) ts = ap (λ (l : List Place). placeFrom r ∷ l) (places-append rs ts)
+
+pub places-take : (n : ℕ) (rs : List Record) → places (take n rs) ≡ take n (places rs)
+unfolding places
+places-take zero rs = refl
+places-take (suc n) [] = refl
+places-take (suc n) (r ∷ rs) = ap (λ (l : List Place). placeFrom r ∷ l) (places-take n rs)
+
+pub places-drop : (n : ℕ) (rs : List Record) → places (drop n rs) ≡ drop n (places rs)
+unfolding places
+places-drop zero rs = refl
+places-drop (suc n) [] = refl
+places-drop (suc n) (r ∷ rs) = places-drop n rs
+
+pub places-set : (rs : List Record) (i : ℕ) (r : Record) → places (set rs i r) ≡ set (places rs) i (placeFrom r)
+unfolding places
+places-set [] i r = refl
+places-set (x ∷ rs) zero r = refl
+places-set (x ∷ rs) (suc i) r = ap (λ (l : List Place). placeFrom x ∷ l) (places-set rs i r)
+
+pub place-at : (rs : List Record) (i : ℕ) → placeFrom (getD rs i noRecord) ≡ getD (places rs) i (placeFrom noRecord)
+unfolding places
+place-at [] i = refl
+place-at (r ∷ rs) zero = refl
+place-at (r ∷ rs) (suc i) = place-at rs i
+
+-- the place that a pick names
+pub place-within : (rs : List Record) (i : ℕ) → i < length rs → placeFrom (getD rs i noRecord) ≡ getD (places rs) i noPlace
+unfolding places
+place-within [] i h = absurd (not-suc-le-zero h)
+place-within (r ∷ rs) zero h = refl
+place-within (r ∷ rs) (suc i) h = place-within rs i (le-of-suc-le-suc h)

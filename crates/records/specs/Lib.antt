@@ -1,0 +1,3 @@
+-- Record structs in a lent list, and in flat words.
+pub mod Structs
+pub mod Moves

@@ -1,0 +1,140 @@
+// Records as structs in a lent list: one put in a place and got from one, one removed and others moved down, those of another list appended, and records taken from flat words.
+ghost use mathlib.Core.Path.{_≡_};
+ghost use mathlib.Core.List.{[], _∷_, _++_};
+ghost use Prim.Native.Nat.{ℕ, _+_, _*_, _^_, _<_, _≤_};
+ghost use lib.ListN.{length, getD, set, take, drop};
+ghost use lib.Signed.{ltZ};
+ghost use Rattle.searches.specs.Search.{aboveBest};
+ghost use Rattle.records.specs.Structs.{noRecord, placeFrom, places, recordIn, recordsIn, bytesIn};
+ghost use Rattle.records.specs.Moves.{Removed, Appended};
+use rows::PATH_ROOM;
+use rows::RECORD_WORDS;
+
+// A record as a host holds it: its path is the first `depth` of the bytes.
+pub struct Record {
+    pub capacity: u64,
+    pub value: i64,
+    pub bound: i64,
+    pub depth: u64,
+    pub path: [u8; 64],
+}
+
+// Stores a record in a place of the list.
+pub fn put(rs: &mut [Record], i: usize, r: Record)
+    requires { ⌜ i < length (now rs) ⌝ }
+    ensures { λ _. ⌜ now (rs .exit) ≡ set (now (rs .entry)) i r ⌝ }
+{
+    rs[i] = r;
+}
+
+// The record in a place of the list.
+pub fn get(rs: &[Record], i: usize) -> Record
+    requires { ⌜ i < length (now rs) ⌝ }
+    ensures { λ r. ⌜ r ≡ getD (now (rs .entry)) i noRecord ⌝ }
+{
+    rs[i]
+}
+
+// Of the first n records those after place `at` move down by one. Place n - 1 and those behind it keep what they held.
+pub fn remove(rs: &mut [Record], at: usize, n: usize)
+    requires { ⌜ (at < n) × (n ≤ length (now rs)) ⌝ }
+    ensures { λ _. ⌜ Removed at n (places (now (rs .entry))) (places (now (rs .exit))) ⌝ }
+{
+    let mut j = at + 1;
+    while j < n {
+        rs[j - 1] = rs[j];
+        j += 1;
+    }
+}
+
+// Whether a record's bound is strictly above the best value.
+fn above(r: Record, best: i64) -> bool
+    ensures { λ b. ⌜ b ≡ ltZ best (r .bound) ⌝ }
+{
+    let bound = r.bound;
+    best < bound
+}
+
+// One more than k if the record is above the best value, else k. No list has 2^60 records.
+fn counted(k: usize, r: Record, best: i64) -> usize
+    requires { ⌜ k < 2 ^ 60 ⌝ }
+    ensures { λ m. ⌜ m ≡ k + length (aboveBest best (placeFrom r ∷ [])) ⌝ }
+{
+    if above(r, best) { k + 1 } else { k }
+}
+
+// How many of the first n records have a bound strictly above the best value.
+pub fn count_above(rs: &[Record], n: usize, best: i64) -> usize
+    requires { ⌜ n ≤ length (now rs) ⌝ }
+    ensures { λ m. ⌜ m ≡ length (aboveBest best (take n (places (now (rs .entry))))) ⌝ }
+{
+    let mut k = 0;
+    let mut j = 0;
+    while j < n {
+        k = counted(k, rs[j], best);
+        j += 1;
+    }
+    k
+}
+
+// Stores those of the first n records of `from` whose bound is strictly above the best value at place `at` and behind it, in order, and answers the new count.
+pub fn append_above(rs: &mut [Record], at: usize, from: &[Record], n: usize, best: i64) -> usize
+    requires { ⌜ (n ≤ length (now from)) × (at + length (aboveBest best (take n (places (now from)))) ≤ length (now rs)) ⌝ }
+    ensures { λ m. ⌜ Appended at (aboveBest best (take n (places (now (from .entry))))) (places (now (rs .entry))) m (places (now (rs .exit))) ⌝ }
+{
+    let mut k = at;
+    let mut j = 0;
+    while j < n {
+        let r = from[j];
+        if above(r, best) {
+            rs[k] = r;
+            k += 1;
+        }
+        j += 1;
+    }
+    k
+}
+
+// A path's bytes, one in each word from place `from` on.
+fn read_path(words: &[u64], from: usize) -> [u8; 64]
+    requires { ⌜ from + 64 ≤ length (now words) ⌝ }
+    ensures { λ r. ⌜ r ≡ bytesIn (now (words .entry)) from ⌝ }
+{
+    let mut path = [0u8; 64];
+    let mut i = 0;
+    while i < PATH_ROOM {
+        path[i] = (words[from + i] % 256) as u8;
+        i += 1;
+    }
+    path
+}
+
+// Record number i of a flat list of words.
+pub fn from_words(words: &[u64], i: usize) -> Record
+    requires { ⌜ i * 68 + 68 ≤ length (now words) ⌝ }
+    ensures { λ r. ⌜ r ≡ recordIn (now (words .entry)) i ⌝ }
+{
+    let at = i * RECORD_WORDS;
+    let value = words::number(words[at + 1]);
+    let bound = words::number(words[at + 2]);
+    let path = read_path(words, at + 4);
+    Record {
+        capacity: words[at],
+        value: value,
+        bound: bound,
+        depth: words[at + 3],
+        path: path,
+    }
+}
+
+// Stores the first n records of a flat list of words at place `at` and behind it.
+pub fn unpack(rs: &mut [Record], at: usize, words: &[u64], n: usize)
+    requires { ⌜ (at + n ≤ length (now rs)) × (n * 68 ≤ length (now words)) ⌝ }
+    ensures { λ _. ⌜ now (rs .exit) ≡ take at (now (rs .entry)) ++ recordsIn (now (words .entry)) n ++ drop (at + n) (now (rs .entry)) ⌝ }
+{
+    let mut j = 0;
+    while j < n {
+        rs[at + j] = from_words(words, j);
+        j += 1;
+    }
+}

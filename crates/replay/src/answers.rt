@@ -1,0 +1,106 @@
+// An answer: the numbers that tell it, and the tables after the call.
+ghost use Rattle.io.specs.Counts.{Counts};
+use crate::output;
+use crate::output::put;
+use crate::output::put_list;
+use crate::output::put_path;
+use compile::Answer;
+use finalize::Value;
+use layers::Layers;
+use refusals::Verdict;
+
+fn number_of(v: Verdict) -> u64 {
+    match v {
+        Verdict::Accepted => 0,
+        Verdict::Refused(n) => n,
+    }
+}
+
+fn flag(b: bool) -> u64 {
+    if b { 1 } else { 0 }
+}
+
+// A best value: 1 and its word, or 0 and 0.
+fn put_value(out: &mut [u8; 65536], at: usize, v: Value) -> usize {
+    let Value::Is(x) = v else {
+        return put_list(out, at, &[0, 0]);
+    };
+    put_list(out, at, &[1, words::word(x)])
+}
+
+// The stored layers: how many, and the first row and the row behind the last of each.
+fn put_layers(out: &mut [u8; 65536], at: usize, l: Layers) -> usize {
+    let mut end = put(out, at, l.count as u64);
+    let mut i = 0;
+    while i < 65 {
+        if l.count <= i {
+            return end;
+        }
+        end = put(out, end, l.from[i] as u64);
+        end = put(out, end, l.to[i] as u64);
+        i += 1;
+    }
+    end
+}
+
+// All but the tables.
+pub fn put_answer(out: &mut [u8; 65536], at: usize, a: Answer) -> usize {
+    let verdict = a.verdict;
+    let best = a.best;
+    let path = a.path;
+    let best_exact = a.best_exact;
+    let exact_path = a.exact_path;
+    let layers = a.layers;
+    let mut end = put_list(out, at, &[number_of(verdict), flag(a.exact)]);
+    end = put_value(out, end, best);
+    end = put_path(out, end, path);
+    end = put_value(out, end, best_exact);
+    end = put_path(out, end, exact_path);
+    end = put_list(
+        out,
+        end,
+        &[a.nodes as u64, a.edges as u64, a.drained as u64],
+    );
+    put_layers(out, end, layers)
+}
+
+// How many words there are up to the last that isn't as before.
+fn changed(table: &[u64], start: u64, step: u64) -> usize
+    ensures { λ r. ⌜ Counts r (now (table .entry)) ⌝ }
+{
+    let mut old = start;
+    let mut last = 0;
+    let mut i = 0;
+    while i < table.len() {
+        if table[i] != old {
+            last = i + 1;
+        }
+        old = std::num::wrapping_add_u64(old, step);
+        i += 1;
+    }
+    last
+}
+
+// A table after the call: the number of words up to the last that changed, and these words.
+fn put_table(out: &mut [u8; 65536], at: usize, table: &[u64], start: u64, step: u64) -> usize {
+    let count = changed(table, start, step);
+    let behind = put(out, at, count as u64);
+    put_list(out, behind, &table[..count])
+}
+
+// The lent tables after the call, and the answer's end.
+pub fn put_tables(
+    out: &mut [u8; 65536],
+    at: usize,
+    nodes: &[u64],
+    edges: &[u64],
+    records: &[u64],
+    head: [u64; 19],
+) -> usize {
+    let step = head[18];
+    let first = put_table(out, at, nodes, head[15], step);
+    let second = put_table(out, first, edges, head[16], step);
+    let end = put_table(out, second, records, head[17], step);
+    output::end_line(out, end);
+    end
+}

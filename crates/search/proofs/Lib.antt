@@ -1,0 +1,8 @@
+-- Laws of the decisions of start and pick.
+pub mod Firsts
+pub mod Asking
+pub mod Values
+pub mod Answers
+pub mod Whole
+pub mod Starting
+pub mod Twice

@@ -1,0 +1,3 @@
+-- The figures of start and pick hold.
+pub mod Computing
+pub mod Figures
