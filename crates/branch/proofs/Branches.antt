@@ -143,16 +143,16 @@ told-of start from cost ns parent v h read e s d oldN oldE es k rooms st held =
     }
 
 -- a step on the part that was lent is one on the whole table
-whole-step : (run : Run) (start : ℕ) (k : Counts) (rooms : Rooms) (ns es : List ℕ) (r : Step) (cs′ ns′ es′ : List ℕ) → start * 8 ≤ length ns → ns′ ≡ take (start * 8) ns ++ (cs′ ++ drop (length ns - start * 8) (drop (start * 8) ns)) → (s : Settings) (d : Diagram) (oldN oldE : List ℕ) → Stands s d oldN oldE start k rooms → Held d oldN oldE ns es → Kept d (diagramOf run) → (ComingHeld d oldN oldE (take (length ns - start * 8) (drop (start * 8) ns)) es → ComingStepped run oldN oldE r cs′ es′) → Stepped run oldN oldE r ns′ es′
+whole-step : (run : Run) (start : ℕ) (k : Counts) (rooms : Rooms) (ns es : List ℕ) (r : Step) (cs′ ns′ es′ : List ℕ) → start * nodeWords ≤ length ns → ns′ ≡ take (start * nodeWords) ns ++ (cs′ ++ drop (length ns - start * nodeWords) (drop (start * nodeWords) ns)) → (s : Settings) (d : Diagram) (oldN oldE : List ℕ) → Stands s d oldN oldE start k rooms → Held d oldN oldE ns es → Kept d (diagramOf run) → (ComingHeld d oldN oldE (take (length ns - start * nodeWords) (drop (start * nodeWords) ns)) es → ComingStepped run oldN oldE r cs′ es′) → Stepped run oldN oldE r ns′ es′
 whole-step run start k rooms ns es r cs′ ns′ es′ l back s d oldN oldE st held kept does =
     let z : d .start * nodeWords ≤ length ns = omega (arith, st .first-is) in
-    let did = does (subst (λ (a : ℕ). ComingHeld d oldN oldE (take (length ns - a * 8) (drop (a * 8) ns)) es) (sym (st .first-is)) (coming-held d oldN oldE ns es (st .start-in) z held)) in
-    let e : ns′ ≡ take (d .start * nodeWords) ns ++ cs′ = back ∙ rw (rest-nil ns (start * 8) l, append-nil cs′, st .first-is) in
+    let did = does (subst (λ (a : ℕ). ComingHeld d oldN oldE (take (length ns - a * nodeWords) (drop (a * nodeWords) ns)) es) (sym (st .first-is)) (coming-held d oldN oldE ns es (st .start-in) z held)) in
+    let e : ns′ ≡ take (d .start * nodeWords) ns ++ cs′ = back ∙ rw (rest-nil ns (start * nodeWords) l, append-nil cs′, st .first-is) in
     record { step-is = did .step-is; held = rw e (back-held d (diagramOf run) oldN oldE ns cs′ es (st .start-in) held kept cs′ es′ (did .held)) }
 
-pub branched : (start : ℕ) (k : Counts) (rooms : Rooms) (from : NodeId) (b : Branch) (ns es : List ℕ) (parent : Node) (v : ℕ) (r : Step) (cs′ ns′ es′ : List ℕ) → from .0 < start → start * 8 ≤ length ns → NodeRead ns (from .0) parent → v ≡ satAdd (parent .value) (mid + b .cost)
-    → ChildAdded start k rooms (record { id = from; value = v; exact = parent .exact }) b (take (length ns - start * 8) (drop (start * 8) ns)) es r cs′ es′
-    → ns′ ≡ take (start * 8) ns ++ (cs′ ++ drop (length ns - start * 8) (drop (start * 8) ns))
+pub branched : (start : ℕ) (k : Counts) (rooms : Rooms) (from : NodeId) (b : Branch) (ns es : List ℕ) (parent : Node) (v : ℕ) (r : Step) (cs′ ns′ es′ : List ℕ) → from .0 < start → start * nodeWords ≤ length ns → NodeRead ns (from .0) parent → v ≡ satAdd (parent .value) (mid + b .cost)
+    → ChildAdded start k rooms (record { id = from; value = v; exact = parent .exact }) b (take (length ns - start * nodeWords) (drop (start * nodeWords) ns)) es r cs′ es′
+    → ns′ ≡ take (start * nodeWords) ns ++ (cs′ ++ drop (length ns - start * nodeWords) (drop (start * nodeWords) ns))
     → Branched start k rooms (from .0) b ns es r ns′ es′
 branched start k rooms from b ns es parent v r cs′ ns′ es′ h l read ve added back =
     record {
@@ -163,9 +163,9 @@ branched start k rooms from b ns es parent v r cs′ ns′ es′ h l read ve add
           (λ part. added .does s d oldN oldE st part (told-of start from (b .cost) ns parent v h read ve s d oldN oldE es k rooms st held) deep);
     }
 
-pub appended : (start : ℕ) (k : Counts) (rooms : Rooms) (from : NodeId) (row : ℕ) (b : Branch) (ns es : List ℕ) (parent : Node) (v : ℕ) (r : Step) (cs′ ns′ es′ : List ℕ) → from .0 < start → start + row < k .nodes → start * 8 ≤ length ns → NodeRead ns (from .0) parent → v ≡ satAdd (parent .value) (mid + b .cost)
-    → EdgeAdded start k rooms (record { id = from; value = v; exact = parent .exact }) row b (take (length ns - start * 8) (drop (start * 8) ns)) es r cs′ es′
-    → ns′ ≡ take (start * 8) ns ++ (cs′ ++ drop (length ns - start * 8) (drop (start * 8) ns))
+pub appended : (start : ℕ) (k : Counts) (rooms : Rooms) (from : NodeId) (row : ℕ) (b : Branch) (ns es : List ℕ) (parent : Node) (v : ℕ) (r : Step) (cs′ ns′ es′ : List ℕ) → from .0 < start → start + row < k .nodes → start * nodeWords ≤ length ns → NodeRead ns (from .0) parent → v ≡ satAdd (parent .value) (mid + b .cost)
+    → EdgeAdded start k rooms (record { id = from; value = v; exact = parent .exact }) row b (take (length ns - start * nodeWords) (drop (start * nodeWords) ns)) es r cs′ es′
+    → ns′ ≡ take (start * nodeWords) ns ++ (cs′ ++ drop (length ns - start * nodeWords) (drop (start * nodeWords) ns))
     → Appended start k rooms (from .0) row b ns es r ns′ es′
 appended start k rooms from row b ns es parent v r cs′ ns′ es′ h i l read ve added back =
     record {

@@ -72,10 +72,10 @@ StillFit first rooms (Stopped n k) = Fit first k rooms
 -- What the tables' lengths must allow, before any row is touched.
 pub record ComingReady (first : ℕ) (k : Counts) (rooms : Rooms) (cs es : List ℕ) : Type 0 where
   pub first-low : first ≤ k .nodes
-  pub rows-in : k .nodes * 8 ≤ first * 8 + length cs
-  pub rooms-in : rooms .nodes * 8 ≤ first * 8 + length cs
-  pub edges-in : rooms .edges * 5 ≤ length es
-  pub words : first * 8 + length cs < 18446744073709551616
+  pub rows-in : k .nodes * nodeWords ≤ first * nodeWords + length cs
+  pub rooms-in : rooms .nodes * nodeWords ≤ first * nodeWords + length cs
+  pub edges-in : rooms .edges * edgeWords ≤ length es
+  pub words : first * nodeWords + length cs < 18446744073709551616
 
 -- The situation that the code stands for: which diagram, under which settings, over which old contents.
 pub record Stands (s : Settings) (d : Diagram) (oldN oldE : List ℕ) (first : ℕ) (k : Counts) (rooms : Rooms) : Type 0 where
@@ -119,9 +119,9 @@ pub record Stepped (run : Run) (oldN oldE : List ℕ) (r : Step) (ns es : List �
 -- What the tables' lengths must allow.
 pub record Ready (start : ℕ) (k : Counts) (rooms : Rooms) (ns es : List ℕ) : Type 0 where
   pub start-low : start ≤ k .nodes
-  pub rows-in : k .nodes * 8 ≤ length ns
-  pub rooms-in : rooms .nodes * 8 ≤ length ns
-  pub edges-in : rooms .edges * 5 ≤ length es
+  pub rows-in : k .nodes * nodeWords ≤ length ns
+  pub rooms-in : rooms .nodes * nodeWords ≤ length ns
+  pub edges-in : rooms .edges * edgeWords ≤ length es
 
 -- The child of node `from`.
 pub record Branched (start : ℕ) (k : Counts) (rooms : Rooms) (from : ℕ) (b : Branch) (ns es : List ℕ) (r : Step) (ns′ es′ : List ℕ) : Type 0 where

@@ -6,6 +6,7 @@ ghost use Prim.Native.Nat.{ℕ, suc, _+_, _-_, _*_, _<_, _≤_};
 ghost use lib.ListN.{length};
 ghost use Rattle.diagram.specs.Node.{fresh};
 ghost use Rattle.diagram.specs.Rule4.{receive};
+ghost use Rattle.layout.specs.Rows.{nodeWords};
 ghost use Rattle.rows.specs.Values.{nodeOf};
 ghost use Rattle.branch.specs.State.{LookedUp, ComingReady, EdgeAdded, ChildMade, ChildAdded, Ready, Branched, Appended};
 use rows::Edge;
@@ -57,7 +58,7 @@ pub struct Branch {
 
 // The first of `count` rows with that capacity.
 pub fn lookup(coming: &[u64], count: usize, capacity: u64) -> Found
-    requires { ⌜ count * 8 ≤ length (now coming) ⌝ }
+    requires { ⌜ count * nodeWords ≤ length (now coming) ⌝ }
     ensures { λ r. ⌜ LookedUp (now (coming .entry)) count capacity r ⌝ }
 {
     let mut i = 0;

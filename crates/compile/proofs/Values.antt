@@ -11,6 +11,8 @@ use borrow.Author.Tests.{le-leb, lt-leb}
 use Rattle.words.specs.I64.{word}
 use Rattle.diagram.specs.Record.{pathRoom, padded}
 use Rattle.diagram.specs.Tables.{Range}
+use Rattle.layout.specs.Rows.{edgeWords, nodeWords}
+use Rattle.layout.specs.Records.{recordWords}
 use Rattle.layers.specs.declared.Layers.{Layers}
 use Rattle.layers.specs.declared.Last.the-variants.{Unsquashed}
 use Rattle.layers.specs.Stored.{Sized, stored, layersFrom}
@@ -34,7 +36,7 @@ use Rattle.compile.specs.Counted.{limited, stopping}
 pub root-made : (q : Request) (w : ℕ) → w ≡ word (q .value) → _≡_ {A = Root} (record { capacity = q .capacity; value = w; depth = q .depth }) (rootFrom q)
 root-made q w e = rw e refl
 
-pub task-made : (q : Request) (w nodes edges : ℕ) → w ≡ word (q .lower) → _≡_ {A = Task} (record { mode = q .mode; width = q .width; lower = w; rooms = record { nodes = nodes / 8; edges = edges / 5 } }) (taskFrom q nodes edges)
+pub task-made : (q : Request) (w nodes edges : ℕ) → w ≡ word (q .lower) → _≡_ {A = Task} (record { mode = q .mode; width = q .width; lower = w; rooms = record { nodes = nodes / nodeWords; edges = edges / edgeWords } }) (taskFrom q nodes edges)
 task-made q w nodes edges e = rw e refl
 
 -- no layers
@@ -55,7 +57,7 @@ too-many x f nodes edges l a e h = rw e h
 pub listed : (x : Drained) (f : Finished) (nodes edges : ℕ) (l : Layers) (n : ℕ) → x ≡ Records n → finishing (Records n) f nodes edges l ≡ finishing x f nodes edges l
 listed x f nodes edges l n e = rw e refl
 
-pub given-made : (q : Request) (path places : List ℕ) (words : ℕ) → places ≡ padded path → _≡_ {A = Given} (record { path = places; depth = q .depth; room = words / 68 }) (givenFrom q path words)
+pub given-made : (q : Request) (path places : List ℕ) (words : ℕ) → places ≡ padded path → _≡_ {A = Given} (record { path = places; depth = q .depth; room = words / recordWords }) (givenFrom q path words)
 given-made q path places words e = rw e refl
 
 -- counted records against the places that there are

@@ -127,8 +127,8 @@ fn task_of(q: Request, node_words: usize, edge_words: usize) -> Task
         width: q.width as usize,
         lower: words::word(q.lower),
         rooms: Rooms {
-            nodes: node_words / 8,
-            edges: edge_words / 5,
+            nodes: node_words / rows::NODE_WORDS,
+            edges: edge_words / rows::EDGE_WORDS,
         },
     }
 }
@@ -152,7 +152,7 @@ pub fn given_of(q: Request, path: &[u8], record_words: usize) -> Given
     Given {
         path: places,
         depth: q.depth as usize,
-        room: record_words / 68,
+        room: record_words / rows::RECORD_WORDS,
     }
 }
 

@@ -171,15 +171,15 @@ module _ (w : Wanted) (d : Diagram) (oldN oldE oldR : List ℕ) (c : Cutset) (co
   pub rows-are : length (c .nodes) ≡ length (d .nodes)
   rows-are = same-length (c .nodes) (d .nodes) (t .same)
 
-  pub node-words : length (d .nodes) * 8 ≤ length ns
+  pub node-words : length (d .nodes) * nodeWords ≤ length ns
   unfolding nodeTable
   node-words = rw (t .nodes-are) (omega (arith, rows-are, length-words encodeNode nodeWords node-width (c .nodes), over-long (nodeTable (c .nodes)) oldN .0))
 
-  pub edge-words : length (d .edges) * 5 ≤ length es
+  pub edge-words : length (d .edges) * edgeWords ≤ length es
   unfolding edgeTable
   edge-words = rw (t .edges-are) (omega (arith, length-words encodeEdge edgeWords edge-width (d .edges), over-long (edgeTable (d .edges)) oldE .0))
 
-  pub record-words : w .room * 68 ≤ length rs
+  pub record-words : w .room * recordWords ≤ length rs
   record-words = rw (t .handed .records-are) (omega (arith, z .record-room, over-long (recordTable (windowOf w (drainedOf w d (c .listed)))) oldR .1))
 
   sits : Sits (countsOf (withNodes d (c .nodes))) ns es
@@ -293,7 +293,7 @@ pub path-asked : (w : Wanted) (r count : ℕ) (ns es rs : List ℕ) → Tracing 
 path-asked w r count ns es rs g =
     (path-fits w (g .diagram) (g .oldN) (g .oldE) (g .oldR) (g .cut) count ns es rs (g .settled) (g .trace) r (g .asked), g .settled .depth-in)
 
-pub place-asked : (P : Diagram → Cutset → Type 0) (w : Wanted) (count : ℕ) (ns es rs : List ℕ) (place : ℕ) → Tracing P w count ns es rs → place < w .room → place * 68 + 68 ≤ length rs
+pub place-asked : (P : Diagram → Cutset → Type 0) (w : Wanted) (count : ℕ) (ns es rs : List ℕ) (place : ℕ) → Tracing P w count ns es rs → place < w .room → place * recordWords + recordWords ≤ length rs
 place-asked P w count ns es rs place g h =
     let n = record-words w (g .diagram) (g .oldN) (g .oldE) (g .oldR) (g .cut) count ns es rs (g .settled) (g .trace) in
     omega arith

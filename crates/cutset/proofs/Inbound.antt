@@ -10,6 +10,7 @@ use Rattle.knapsack.proofs.Cases.{by-test}
 use Rattle.diagram.specs.Node.{Node, Edge, nodeAt, edgeAt}
 use Rattle.diagram.specs.Tables.{Diagram, inbound}
 use Rattle.diagram.specs.After4.{Cutset, listRow, frontierEdges}
+use Rattle.layout.specs.Rows.{edgeWords}
 use Rattle.rows.specs.Access.{NodeRead, EdgeRead}
 use Rattle.theorems.proofs.Links.{Wired, newestBelow, alongNext, next-walk}
 use Rattle.cutset.specs.declared.Wanted.{Wanted}
@@ -114,7 +115,7 @@ module _ (w : Wanted) (e count : ℕ) (ns es rs : List ℕ) (s : Standing w e co
   at-link : Link (s .diagram) e
   at-link = link-of (s .diagram) e (s .settled .wired) (s .settled .start-in) h (s .here .inside)
 
-  pub edge-asked : (e - 1) * 5 + 5 ≤ length es
+  pub edge-asked : (e - 1) * edgeWords + edgeWords ≤ length es
   edge-asked =
       let n = edge-words w (s .diagram) (s .oldN) (s .oldE) (s .oldR) (s .here .cut) count ns es rs (s .settled) (s .here .trace) in
       omega (arith, at-link .edge-in)

@@ -14,7 +14,7 @@ use Rattle.diagram.specs.Tables.{Range, Diagram, rowsFrom, rowsOf, inbound}
 use Rattle.diagram.specs.After4.{Cutset, listRow, listRows, frontierEdges, frontierRows, frontierLayers}
 use Rattle.diagram.specs.After6.{drainedRecord, drainRows}
 use Rattle.layout.specs.Table.{over}
-use Rattle.layout.specs.Rows.{nodeTable}
+use Rattle.layout.specs.Rows.{nodeWords, nodeTable}
 use Rattle.rows.specs.Access.{NodeRead, NodeWritten}
 use Rattle.theorems.proofs.Bool.{and-both}
 use Rattle.cutset.specs.declared.Wanted.{Wanted}
@@ -50,7 +50,7 @@ pub tracing-as : (P Q : Diagram → Cutset → Type 0) (w : Wanted) (k : ℕ) (n
 tracing-as P Q w k ns es rs q x = tracing-then P Q (λ d c. c) w k ns es rs k ns rs q x (traced-none P w k ns es rs)
 
 -- row r of the tables can be read
-pub row-asked : (P : Diagram → Cutset → Type 0) (w : Wanted) (k : ℕ) (ns es rs : List ℕ) (r : ℕ) → ((d : Diagram) (c : Cutset) → P d c → r < length (d .nodes)) → Tracing P w k ns es rs → r * 8 + 8 ≤ length ns
+pub row-asked : (P : Diagram → Cutset → Type 0) (w : Wanted) (k : ℕ) (ns es rs : List ℕ) (r : ℕ) → ((d : Diagram) (c : Cutset) → P d c → r < length (d .nodes)) → Tracing P w k ns es rs → r * nodeWords + nodeWords ≤ length ns
 row-asked P w k ns es rs r q x =
     let n = node-words w (x .diagram) (x .oldN) (x .oldE) (x .oldR) (x .cut) k ns es rs (x .settled) (x .trace) in
     let h = q (x .diagram) (x .cut) (x .asked) in
@@ -105,7 +105,7 @@ flags-more (n ∷ ns) (suc s) x u =
     (λ _. ap suc (flags-more ns s x u))
     (λ _. flags-more ns s x u)
 
-pub count-asked : (P : Diagram → Cutset → Type 0) (w : Wanted) (count : ℕ) (ns es rs : List ℕ) → ((d : Diagram) (c : Cutset) → P d c → Few c) → Tracing P w count ns es rs → count * 8 ≤ length ns
+pub count-asked : (P : Diagram → Cutset → Type 0) (w : Wanted) (count : ℕ) (ns es rs : List ℕ) → ((d : Diagram) (c : Cutset) → P d c → Few c) → Tracing P w count ns es rs → count * nodeWords ≤ length ns
 count-asked P w count ns es rs q x =
     let d = x .diagram in
     let c = x .cut in

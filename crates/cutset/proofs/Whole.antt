@@ -14,7 +14,7 @@ use Rattle.diagram.specs.Tables.{Range, LastExact, unsquashed, squashedAfter, D
 use Rattle.diagram.specs.After4.{CutsetKind, lastExactLayer, frontier, Cutset, layerCutset, frontierLayers, noCutset, cutsetOf}
 use Rattle.diagram.specs.After6.{drainRows}
 use Rattle.layout.specs.Table.{wordsOf, over}
-use Rattle.layout.specs.Rows.{nodeTable, edgeTable}
+use Rattle.layout.specs.Rows.{nodeWords, nodeTable, edgeTable}
 use Rattle.layout.specs.Records.{recordWords, recordTable, Roomy}
 use Rattle.finish.proofs.Rewriting.{nodes-within}
 use Rattle.layers.specs.declared.Layers.{Layers}
@@ -135,7 +135,7 @@ module _ (w : Wanted) (l : Layers) (s : Last) (k : Kind) (count : ℕ) (ns es rs
     rows-are : count ≡ length (cutsetOf (kindOf k) d .nodes)
     rows-are = b .count-is ∙ sym (same-length (cutsetOf (kindOf k) d .nodes) (d .nodes) (of-flags (kindOf k) d))
 
-    flags-words : count * 8 ≤ length ns
+    flags-words : count * nodeWords ≤ length ns
     flags-words = omega (arith, rows-are, nodes-within (cutsetOf (kindOf k) d .nodes) oldN ns (b .nodes-are))
 
     -- the flags cleared, the tables hold the diagram without them
@@ -150,7 +150,7 @@ module _ (w : Wanted) (l : Layers) (s : Last) (k : Kind) (count : ℕ) (ns es rs
         subst (λ (c : Cutset). Trace w d oldN oldE rs c n ns₂ es rs₂) (from-none (kindOf k) d)
         (g .does d oldN oldE rs (noCutset d) (b .settled) (fresh-trace w d oldN oldE rs ns₁ es rs (unflagged ns₁ cl) (b .edges-are) refl) (b .shaped))
 
-  pub clear-asked : Windowed w l s k count ns es rs → count * 8 ≤ length ns
+  pub clear-asked : Windowed w l s k count ns es rs → count * nodeWords ≤ length ns
   clear-asked x = flags-words (x .diagram) (x .oldN) (x .oldE) (x .flagged)
 
   pub list-again : (ns₁ : List ℕ) → Cleared ns count ns₁ → Windowed w l s k count ns es rs → Tracing (Shaped l s) w 0 ns₁ es rs × (Sized l × (l .count ≤ 65))

@@ -5,6 +5,7 @@ ghost use lib.ListN.{length};
 ghost use Rattle.words.specs.I64.{satAdd};
 ghost use Rattle.diagram.specs.After4.{lastExactLayer};
 ghost use Rattle.diagram.specs.After6.{drainedBound};
+ghost use Rattle.layout.specs.Rows.{nodeWords};
 ghost use Rattle.rows.specs.Values.{nodeOf};
 ghost use Rattle.rows.specs.Access.{NodeRead};
 ghost use Rattle.cutset.specs.Views.{withCutset};
@@ -293,7 +294,7 @@ fn frontier_layers(
 
 // Clears the cutset flags of the first `count` rows.
 fn clear_flags(nodes: &mut [u64], count: usize)
-    requires { ⌜ count * 8 ≤ length (now nodes) ⌝ }
+    requires { ⌜ count * nodeWords ≤ length (now nodes) ⌝ }
     ensures { λ _. ⌜ Cleared (now (nodes .entry)) count (now (nodes .exit)) ⌝ }
 {
     let mut i = 0;

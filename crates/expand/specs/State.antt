@@ -9,6 +9,7 @@ use Rattle.diagram.specs.Node.{nodeAt}
 use Rattle.diagram.specs.Tables.{Diagram}
 use Rattle.diagram.specs.Run.{Settings}
 use Rattle.diagram.specs.Rule3.{branchTake, branchBoth, expand, expandAll}
+use Rattle.layout.specs.Rows.{edgeWords, nodeWords}
 use Rattle.branch.specs.declared.Counts.{Counts}
 use Rattle.branch.specs.declared.Rooms.{Rooms}
 use Rattle.branch.specs.declared.Step.{Step}
@@ -18,8 +19,8 @@ use Rattle.expand.specs.declared.Item.{Item}
 -- The counts are within the rooms, and the rooms within the tables.
 pub record Roomy (start : ℕ) (k : Counts) (rooms : Rooms) (ns es : List ℕ) : Type 0 where
   pub fit : Fit start k rooms
-  pub rooms-in : rooms .nodes * 8 ≤ length ns
-  pub edges-in : rooms .edges * 5 ≤ length es
+  pub rooms-in : rooms .nodes * nodeWords ≤ length ns
+  pub edges-in : rooms .edges * edgeWords ≤ length es
 
 -- The code's item is the definition's: its profit, and its weight as it counts.
 pub record Decides (i : Item) (item : Blocks.Item) (k : ℕ) : Type 0 where

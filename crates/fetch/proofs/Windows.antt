@@ -119,42 +119,42 @@ unfolding runOf run Call.settingsOf
 run-is ws ps q path m = refl
 
 module _ (o : Outcome) (ran : Ran) (q : Request) (path ns es oldN oldE : List ℕ) (f : Fetching o ran q path ns es oldN oldE) (rs : List ℕ) where
-  abbrev settings : Settings
+  abbrev pub settings : Settings
   settings = Call.settingsOf (requestOf (f .weights) (f .profits) q path) (f .rooms)
 
-  abbrev items : List Item
+  abbrev pub items : List Item
   items = itemsOf (f .weights) (f .profits)
 
-  abbrev compiled-record : Record
+  abbrev pub compiled-record : Record
   compiled-record = Def.recordOf (givenOf q path)
 
-  abbrev k : CutsetKind
+  abbrev pub k : CutsetKind
   k = kindOf (q .kind)
 
-  abbrev given : Given
+  abbrev pub given : Given
   given = givenFrom q path (length rs)
 
-  grew : GrownTo settings items compiled-record relaxing k o
+  pub grew : GrownTo settings items compiled-record relaxing k o
   grew =
       subst (λ (m : Mode). GrownTo settings items compiled-record m k o) (f .relaxes)
       (grown-to settings items compiled-record (modeOf (q .mode)) k o (sym (run-is (f .weights) (f .profits) q path (f .rooms)) ∙ f .ran-is))
 
-  abbrev d : Diagram
+  abbrev pub d : Diagram
   d = grew .diagram
 
   -- o's parts are those of the outcome of d
-  keeps : (o .best ≡ bestNode d) × ((o .diagram .edges ≡ d .edges) × ((o .diagram .layers ≡ d .layers) × (o .diagram .last ≡ d .last)))
+  pub keeps : (o .best ≡ bestNode d) × ((o .diagram .edges ≡ d .edges) × ((o .diagram .layers ≡ d .layers) × (o .diagram .last ≡ d .last)))
   keeps =
       subst (λ (x : Outcome). (x .best ≡ bestNode d) × ((x .diagram .edges ≡ d .edges) × ((x .diagram .layers ≡ d .layers) × (x .diagram .last ≡ d .last)))) (grew .outcome-is) (outcome-keeps relaxing k d)
 
-  rows-are : o .diagram .nodes ≡ cutsetOf k (bounded relaxing d) .nodes
+  pub rows-are : o .diagram .nodes ≡ cutsetOf k (bounded relaxing d) .nodes
   rows-are = ap (λ (x : Outcome). x .diagram .nodes) (sym (grew .outcome-is)) ∙ outcome-nodes k d
 
   rows-long : length (o .diagram .nodes) ≡ length (d .nodes)
   rows-long = ap (λ (x : Outcome). length (x .diagram .nodes)) (sym (grew .outcome-is)) ∙ outcome-dressed relaxing k d .long
 
   -- the node table as the growth left it
-  abbrev grown-table : List ℕ
+  abbrev pub grown-table : List ℕ
   grown-table = over (nodeTable (d .nodes)) oldN
 
   as-grown : Grown settings items compiled-record d oldN oldE (countsOf d) (d .start) (layersOf o) (ran .last) given grown-table es rs
@@ -177,11 +177,11 @@ module _ (o : Outcome) (ran : Ran) (q : Request) (path ns es oldN oldE : List �
         room-in = div-mul-le-self (length rs) 68;
       }
 
-  standing : Standing d oldN oldE (countsOf d .nodes) given (layersOf o) (ran .last) grown-table es rs
+  pub standing : Standing d oldN oldE (countsOf d .nodes) given (layersOf o) (ran .last) grown-table es rs
   standing = stands settings items compiled-record d oldN oldE (countsOf d) (d .start) (layersOf o) (ran .last) given grown-table es rs as-grown
 
   -- the node table as local bounds left it
-  abbrev bounds-table : List ℕ
+  abbrev pub bounds-table : List ℕ
   bounds-table = over (nodeTable (localBounds relaxing d (d .nodes))) oldN
 
   rewritten : Rewritten (sits-of d oldN oldE (countsOf d .nodes) given (layersOf o) (ran .last) grown-table es rs standing) (localBounds relaxing d (d .nodes)) bounds-table
@@ -192,7 +192,7 @@ module _ (o : Outcome) (ran : Ran) (q : Request) (path ns es oldN oldE : List �
         wired = bounds-wired d (standing .usable .start-in) (standing .wired);
       }
 
-  bounds : Bounded (wanted given 0) (layersOf o) (ran .last) (bounded relaxing d) oldN oldE (countsOf d .nodes) bounds-table es rs
+  pub bounds : Bounded (wanted given 0) (layersOf o) (ran .last) (bounded relaxing d) oldN oldE (countsOf d .nodes) bounds-table es rs
   bounds = bounded-stands d oldN oldE (countsOf d .nodes) given (layersOf o) (ran .last) grown-table es rs standing relaxing bounds-table rewritten
 
   module _ (first : ℕ) (z : ℤ) where

@@ -14,7 +14,7 @@ use Rattle.diagram.specs.After4.{Cutset, cutsetOf}
 use Rattle.diagram.specs.After5.{localBounds}
 use Rattle.diagram.specs.After6.{outcome, drainRows, drained}
 use Rattle.layout.specs.Table.{over}
-use Rattle.layout.specs.Rows.{nodeTable}
+use Rattle.layout.specs.Rows.{nodeWords, nodeTable}
 use Rattle.rows.specs.declared.NodeId.{NodeId}
 use Rattle.rows.specs.Access.{FieldRead}
 use Rattle.layers.specs.declared.Layers.{Layers}
@@ -85,7 +85,7 @@ module _ (best : Best) (given : Given) (layers : Layers) (last : Last) (ns es : 
   count-asked v x =
       count-first (wanted given v) layers last (x .count) ns es [] (drain-asked (x .count) best given layers last ns es [] v (x .cuttable))
 
-  pub value-read-asked : (n : NodeId) → best ≡ Row n → CutCountable best given layers last ns es → n .0 * 8 + 8 ≤ length ns
+  pub value-read-asked : (n : NodeId) → best ≡ Row n → CutCountable best given layers last ns es → n .0 * nodeWords + nodeWords ≤ length ns
   value-read-asked n e x = read-asked (x .count) best given layers last ns es [] n e (x .cuttable)
 
   pub none-counted : (kind : Kind) (relaxed : Bool) → relaxed ≡ false → CutsetCounted best given layers kind last relaxed ns es 0 ns

@@ -14,6 +14,7 @@ use Rattle.diagram.specs.After4.{cutsetOf}
 use Rattle.diagram.specs.After6.{drainRows}
 use Rattle.layout.specs.Table.{wordsOf, over}
 use Rattle.layout.specs.Records.{recordTable}
+use Rattle.layout.specs.Rows.{nodeWords}
 use Rattle.rows.specs.declared.NodeId.{NodeId}
 use Rattle.rows.specs.Access.{FieldRead}
 use Rattle.layers.specs.declared.Layers.{Layers}
@@ -62,7 +63,7 @@ module _ (count : ℕ) (best : Best) (given : Given) (layers : Layers) (last : L
   pub flag-asked : Cuttable count best given layers last ns es rs → Tracing (Shaped layers last) (counting (wanted given 0)) 0 ns es rs × (Sized layers × (layers .count ≤ 65))
   flag-asked x = count-first (wanted given 0) layers last count ns es rs (x .drainable)
 
-  pub read-asked : (n : NodeId) → best ≡ Node n → Cuttable count best given layers last ns es rs → n .0 * 8 + 8 ≤ length ns
+  pub read-asked : (n : NodeId) → best ≡ Node n → Cuttable count best given layers last ns es rs → n .0 * nodeWords + nodeWords ≤ length ns
   read-asked n e x =
       let b = x .drainable .bounded in
       let i : Within 0 count (Node n) = subst (λ (y : Best). Within 0 count y) e (x .inside) in

@@ -9,6 +9,7 @@ use Rattle.diagram.specs.Run.{Mode}
 use Rattle.diagram.specs.Tables.{LastExact, unsquashed, squashedAfter, Diagram, Found, rowsFrom, rowsOf, coming}
 use Rattle.diagram.specs.After1.{terminals, bestOf, bestNode, exactPath, bestExactNode}
 use Rattle.diagram.specs.After2.{neverSquashed, isExact}
+use Rattle.layout.specs.Rows.{nodeWords}
 use Rattle.layers.specs.declared.Last.{Last}
 use Rattle.layers.specs.Stored.{lastOf}
 use Rattle.finish.specs.declared.Best.{Best}
@@ -33,7 +34,7 @@ exact-found t start count best walked b e f =
 
 -- ---- what is asked of the tables
 
-pub judge-words : (start count : ℕ) (ns es : List ℕ) → Judgeable start count ns es → (start ≤ count) × (count * 8 ≤ length ns)
+pub judge-words : (start count : ℕ) (ns es : List ℕ) → Judgeable start count ns es → (start ≤ count) × (count * nodeWords ≤ length ns)
 judge-words start count ns es j =
     (omega (arith, j .start-is, j .count-is, j .sits .start-in), omega (arith, j .count-is, j .sits .nodes-in))
 

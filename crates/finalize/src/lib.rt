@@ -4,6 +4,7 @@ ghost use mathlib.Core.Bool.{_||_};
 ghost use mathlib.Core.List.{[]};
 ghost use Prim.Native.Nat.{ℕ, _*_, _≤_};
 ghost use lib.ListN.{length};
+ghost use Rattle.layout.specs.Rows.{nodeWords};
 ghost use Rattle.layers.specs.Stored.{Sized, lastOf};
 ghost use Rattle.cutset.specs.Trace.{Tracing, Traced};
 ghost use Rattle.cutset.specs.Whole.{kindOf, counting, Shaped, cutsetFrom};
@@ -70,7 +71,7 @@ fn either(a: bool, b: bool) -> bool
 
 // Where the walk up the best path succeeded the best exact node is the best node; else it is the best of the exact terminals.
 fn best_exact_node(nodes: &[u64], start: usize, count: usize, best: Best, walked: bool) -> Best
-    requires { ⌜ (start ≤ count) × (count * 8 ≤ length (now nodes)) ⌝ }
+    requires { ⌜ (start ≤ count) × (count * nodeWords ≤ length (now nodes)) ⌝ }
     ensures { λ b. ⌜ BestExactFound (now (nodes .entry)) start count best walked b ⌝ }
 {
     if walked {

@@ -12,6 +12,7 @@ use Rattle.knapsack.proofs.Cases.{by-test}
 use Rattle.diagram.specs.Node.{Node, Edge, nodeAt, edgeAt, update}
 use Rattle.diagram.specs.Tables.{inboundBelow, inbound}
 use Rattle.diagram.specs.After5.{raise, raiseParents}
+use Rattle.layout.specs.Rows.{edgeWords, nodeWords}
 use Rattle.rows.specs.Access.{NodeRead, EdgeRead}
 use Rattle.branch.specs.declared.Counts.{Counts}
 use Rattle.theorems.proofs.Links.{newestBelow}
@@ -149,7 +150,7 @@ raise-all own first ns es link us z g =
     }
 
 -- what a turn asks: the edge's words, its parent's words, and that its next number is the smaller one
-pub link-readable : (own link₀ : ℕ) (ns es : List ℕ) (link : ℕ) (us : List ℕ) → Newest ns es link₀ → Raising own link₀ ns es link us → 0 < link → (link - 1) * 5 + 5 ≤ length es
+pub link-readable : (own link₀ : ℕ) (ns es : List ℕ) (link : ℕ) (us : List ℕ) → Newest ns es link₀ → Raising own link₀ ns es link us → 0 < link → (link - 1) * edgeWords + edgeWords ≤ length es
 link-readable own link₀ ns es link us p g z =
     let h = p .sits in
     let left = g .does (p .counts) h (p .row) (p .inside) (p .newest-is) in
@@ -157,7 +158,7 @@ link-readable own link₀ ns es link us p g z =
     edge-words h (link - 1) (omega (arith, n .below, left .within))
 
 pub record Turn (us : List ℕ) (link from next : ℕ) : Type 0 where
-  pub parent-in : from * 8 + 8 ≤ length us
+  pub parent-in : from * nodeWords + nodeWords ≤ length us
   pub falls : next < link
 
 pub turn-at : (own link₀ : ℕ) (ns es : List ℕ) (link : ℕ) (us : List ℕ) (e : Edge) → Newest ns es link₀ → Raising own link₀ ns es link us → 0 < link → EdgeRead es (link - 1) e → Turn us link (e .from) (e .next)

@@ -28,11 +28,11 @@ edge-width : (e : Edge) → length (encodeEdge e) ≡ edgeWords
 unfolding encodeEdge
 edge-width e = refl
 
-pub nodes-within : (rows : List Node) (old us : List ℕ) → us ≡ over (nodeTable rows) old → length rows * 8 ≤ length us
+pub nodes-within : (rows : List Node) (old us : List ℕ) → us ≡ over (nodeTable rows) old → length rows * nodeWords ≤ length us
 unfolding over nodeTable
 nodes-within rows old us e = omega (arith, simp length-append at (ap (length {A = ℕ}) e), length-words encodeNode nodeWords node-width rows)
 
-pub edges-within : (rows : List Edge) (old us : List ℕ) → us ≡ over (edgeTable rows) old → length rows * 5 ≤ length us
+pub edges-within : (rows : List Edge) (old us : List ℕ) → us ≡ over (edgeTable rows) old → length rows * edgeWords ≤ length us
 unfolding over edgeTable
 edges-within rows old us e = omega (arith, simp length-append at (ap (length {A = ℕ}) e), length-words encodeEdge edgeWords edge-width rows)
 
@@ -70,11 +70,11 @@ pub still-bytes : {k : Counts} {ns es : List ℕ} (h : Sits k ns es) (rows : Lis
 unfolding withNodes
 still-bytes h rows e l = h .bytes e l
 
-pub still-within : {k : Counts} {ns es : List ℕ} (h : Sits k ns es) (rows : List Node) (us : List ℕ) → Rewritten h rows us → length (withNodes (h .diagram) rows .nodes) * 8 ≤ length us
+pub still-within : {k : Counts} {ns es : List ℕ} (h : Sits k ns es) (rows : List Node) (us : List ℕ) → Rewritten h rows us → length (withNodes (h .diagram) rows .nodes) * nodeWords ≤ length us
 unfolding withNodes
 still-within h rows us w = nodes-within rows (h .oldN) us (w .nodes-are)
 
-pub still-edged : {k : Counts} {ns es : List ℕ} (h : Sits k ns es) (rows : List Node) → length (withNodes (h .diagram) rows .edges) * 5 ≤ length es
+pub still-edged : {k : Counts} {ns es : List ℕ} (h : Sits k ns es) (rows : List Node) → length (withNodes (h .diagram) rows .edges) * edgeWords ≤ length es
 unfolding withNodes
 still-edged h rows = h .edges-in
 

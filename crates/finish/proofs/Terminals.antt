@@ -11,6 +11,7 @@ use Rattle.diagram.specs.Node.{nodeAt}
 use Rattle.diagram.specs.Tables.{at, nowhere, rowsFrom}
 use Rattle.diagram.specs.Rule6.{bySquash}
 use Rattle.diagram.specs.After1.{better, bestOf}
+use Rattle.layout.specs.Rows.{nodeWords}
 use Rattle.rows.specs.declared.NodeId.{NodeId}
 use Rattle.rows.specs.Access.{NodeRead}
 use Rattle.finish.specs.declared.Best.{Best}
@@ -45,7 +46,7 @@ row-alone t r behind e b n read w z k =
     })
 
 -- the words of the other row are there
-pub readable : (words : ℕ) (b : Best) (q : NodeId) → b ≡ Node q → Readable words b → q .0 * 8 + 8 ≤ words
+pub readable : (words : ℕ) (b : Best) (q : NodeId) → b ≡ Node q → Readable words b → q .0 * nodeWords + nodeWords ≤ words
 readable words b q e h = subst (λ (x : Best). Readable words x) e h
 
 -- squash order of two rows by value
@@ -120,7 +121,7 @@ one-row-more t count i j e best b z h p q =
     }
 
 -- the best row so far can be read
-pub best-readable : (t : List ℕ) (i count : ℕ) (e : Bool) (best : Best) → BestFound t i count e best → count * 8 ≤ length t → Readable (length t) best
+pub best-readable : (t : List ℕ) (i count : ℕ) (e : Bool) (best : Best) → BestFound t i count e best → count * nodeWords ≤ length t → Readable (length t) best
 best-readable t i count e best f h = go best (f .inside)
   where
     go : (b : Best) → Within i count b → Readable (length t) b

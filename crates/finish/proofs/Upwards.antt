@@ -10,6 +10,7 @@ use Rattle.diagram.specs.Node.{Node, Edge, nodeAt, update, markedWith}
 use Rattle.diagram.specs.Run.{Mode, exactly, restricted, relaxing, isRelaxing}
 use Rattle.diagram.specs.Tables.{Diagram, Range, LastExact, unsquashed, squashedAfter, withNodes, rowsFrom, rowsOf}
 use Rattle.diagram.specs.After5.{groundRows, groundLayer, raiseRows, raiseLayers, boundsIf, localBounds}
+use Rattle.layout.specs.Rows.{nodeWords}
 use Rattle.branch.specs.declared.Counts.{Counts}
 use Rattle.layers.specs.declared.Layers.{Layers}
 use Rattle.layers.specs.Stored.{firstOnes, stored}
@@ -225,7 +226,7 @@ bounds-all l squashed relaxed b ns es us vs j e z n g c =
     }
 
 -- what the two passes ask
-pub last-in : (l : Layers) (j : ℕ) (ns es : List ℕ) → Layered ns es l → l .count ≡ suc j → getD (l .to) j 0 * 8 ≤ length ns
+pub last-in : (l : Layers) (j : ℕ) (ns es : List ℕ) → Layered ns es l → l .count ≡ suc j → getD (l .to) j 0 * nodeWords ≤ length ns
 last-in l j ns es p n = omega (arith, p .ranged .ends j (omega arith), p .sits .nodes-in)
 
 pub layered-still : (l : Layers) (j : ℕ) (ns es us : List ℕ) → Layered ns es l → l .count ≡ suc j → LayerGrounded (getD (l .from) j 0) (getD (l .to) j 0) ns us → Layered us es l

@@ -9,6 +9,7 @@ use Rattle.diagram.specs.Node.{Node, Edge, nodeAt, edgeAt}
 use Rattle.diagram.specs.Run.{Mode, exactly, restricted, relaxing, isRelaxing}
 use Rattle.diagram.specs.Tables.{Diagram, Found, at, nowhere}
 use Rattle.diagram.specs.After1.{bestNode, parentBy, walkUp, exactPath}
+use Rattle.layout.specs.Rows.{edgeWords, nodeWords}
 use Rattle.rows.specs.declared.NodeId.{NodeId}
 use Rattle.rows.specs.Access.{NodeRead, EdgeRead}
 use Rattle.branch.specs.declared.Counts.{Counts}
@@ -28,10 +29,10 @@ node-is h r n read l = read .is-row (h .diagram .nodes) (h .oldN) (h .held .node
 pub edge-is : {k : Counts} {ns es : List ℕ} (h : Sits k ns es) (e : ℕ) (x : Edge) → EdgeRead es e x → e < length (h .diagram .edges) → x ≡ edgeAt (h .diagram .edges) e
 edge-is h e x read l = read .is-row (h .diagram .edges) (h .oldE) (h .held .edges-are) l
 
-pub row-words : {k : Counts} {ns es : List ℕ} (h : Sits k ns es) (r : ℕ) → r < length (h .diagram .nodes) → r * 8 + 8 ≤ length ns
+pub row-words : {k : Counts} {ns es : List ℕ} (h : Sits k ns es) (r : ℕ) → r < length (h .diagram .nodes) → r * nodeWords + nodeWords ≤ length ns
 row-words h r l = omega (arith, h .nodes-in)
 
-pub edge-words : {k : Counts} {ns es : List ℕ} (h : Sits k ns es) (e : ℕ) → e < length (h .diagram .edges) → e * 5 + 5 ≤ length es
+pub edge-words : {k : Counts} {ns es : List ℕ} (h : Sits k ns es) (e : ℕ) → e < length (h .diagram .edges) → e * edgeWords + edgeWords ≤ length es
 edge-words h e l = omega (arith, h .edges-in)
 
 -- the parent over the best edge, where there is one
@@ -94,7 +95,7 @@ walk-on ns es r n e b read x y z edge w = record { does = λ k h l f q. go h l f
 
 -- ---- what the next step asks
 
-pub edge-readable : (ns es : List ℕ) (r : ℕ) (n : Node) → Row ns es r → NodeRead ns r n → 0 < n .best → (n .best - 1) * 5 + 5 ≤ length es
+pub edge-readable : (ns es : List ℕ) (r : ℕ) (n : Node) → Row ns es r → NodeRead ns r n → 0 < n .best → (n .best - 1) * edgeWords + edgeWords ≤ length es
 edge-readable ns es r n row read z = edge-words (row .sits) (n .best - 1) (parent-of (row .sits) r n read (row .inside) z .edge-in)
 
 pub parent-row : (ns es : List ℕ) (r : ℕ) (n : Node) (e : Edge) → Row ns es r → NodeRead ns r n → 0 < n .best → EdgeRead es (n .best - 1) e → (e .from < r) × Row ns es (e .from)

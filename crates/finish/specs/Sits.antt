@@ -5,6 +5,7 @@ use Prim.Native.Nat.{ℕ, _*_, _<_, _≤_}
 use lib.ListN.{length}
 use Rattle.diagram.specs.Node.{edgeAt}
 use Rattle.diagram.specs.Tables.{Diagram}
+use Rattle.layout.specs.Rows.{edgeWords, nodeWords}
 use Rattle.branch.specs.declared.Counts.{Counts}
 use Rattle.branch.specs.State.{countsOf, Held}
 use Rattle.theorems.proofs.Links.{Wired}
@@ -19,8 +20,8 @@ pub record Sits (k : Counts) (ns es : List ℕ) : Type 0 where
   pub counts : k ≡ countsOf diagram
   pub wired : Wired diagram
   pub start-in : diagram .start ≤ length (diagram .nodes)
-  pub nodes-in : length (diagram .nodes) * 8 ≤ length ns
-  pub edges-in : length (diagram .edges) * 5 ≤ length es
+  pub nodes-in : length (diagram .nodes) * nodeWords ≤ length ns
+  pub edges-in : length (diagram .edges) * edgeWords ≤ length es
   pub bytes : (e : ℕ) → e < length (diagram .edges) → edgeAt (diagram .edges) e .decision < 256
 
 -- and row r is one of its rows

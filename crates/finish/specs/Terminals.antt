@@ -9,7 +9,7 @@ use Rattle.diagram.specs.Node.{nodeAt}
 use Rattle.diagram.specs.Tables.{Found, at, nowhere, rowsFrom}
 use Rattle.diagram.specs.After1.{better, bestOf}
 use Rattle.layout.specs.Table.{over}
-use Rattle.layout.specs.Rows.{nodeTable}
+use Rattle.layout.specs.Rows.{nodeWords, nodeTable}
 use Rattle.finish.specs.declared.Best.{Best}
 use Rattle.finish.specs.declared.Best.the-variants.{Node, NoTerminal}
 
@@ -25,7 +25,7 @@ Within lo hi NoTerminal = Unit {0}
 
 -- a table of so many words has an answer's row
 abbrev pub Readable : ℕ → Best → Type 0
-Readable words (Node n) = n .0 * 8 + 8 ≤ words
+Readable words (Node n) = n .0 * nodeWords + nodeWords ≤ words
 Readable words NoTerminal = Unit {0}
 
 -- all rows, or the exact ones

@@ -9,6 +9,7 @@ ghost use Rattle.words.specs.I64.{mid, satAdd};
 ghost use Rattle.diagram.specs.Node.{markedWith};
 ghost use Rattle.diagram.specs.Record.{padded};
 ghost use Rattle.diagram.specs.After5.{raise};
+ghost use Rattle.layout.specs.Rows.{nodeWords};
 ghost use Rattle.rows.specs.Values.{nodeOf};
 ghost use Rattle.finish.specs.Bounds.{RowChanged, LayerGrounded, Newest, ParentsRaised, RowRaised, Upto, LayerRaised, Layered, LayersRaised, BoundsComputed};
 ghost use Rattle.finish.specs.Paths.{PathFits, PathWritten};
@@ -64,7 +65,7 @@ fn stands_first(a: Node, b: Node) -> bool
 
 // The better one of row r and the best of the rows behind it.
 fn better_of(nodes: &[u64], r: NodeId, behind: Best, exact_only: bool) -> Best
-    requires { ⌜ (r .0 * 8 + 8 ≤ length (now nodes)) × Readable (length (now nodes)) behind ⌝ }
+    requires { ⌜ (r .0 * nodeWords + nodeWords ≤ length (now nodes)) × Readable (length (now nodes)) behind ⌝ }
     ensures { λ b. ⌜ Bettered (now (nodes .entry)) (r .0) behind «exact_only» b ⌝ }
 {
     let n = rows::read_node(nodes, r);
@@ -85,7 +86,7 @@ fn better_of(nodes: &[u64], r: NodeId, behind: Best, exact_only: bool) -> Best
 // `_find_best_node` of clean.rs: the best of the rows from start to count, of all or of the exact ones. It goes from the last row
 // to the first, as the definition does.
 pub fn find_best_node(nodes: &[u64], start: usize, count: usize, exact_only: bool) -> Best
-    requires { ⌜ (start ≤ count) × (count * 8 ≤ length (now nodes)) ⌝ }
+    requires { ⌜ (start ≤ count) × (count * nodeWords ≤ length (now nodes)) ⌝ }
     ensures { λ b. ⌜ BestFound (now (nodes .entry)) start count «exact_only» b ⌝ }
 {
     let mut best = Best::NoTerminal;
@@ -202,7 +203,7 @@ fn marked_with(n: Node, bottom: u64) -> Node
 
 // A row of the last stored layer gets 0, which stands as 2^63, and a mark.
 fn ground_row(nodes: &mut [u64], r: NodeId)
-    requires { ⌜ r .0 * 8 + 8 ≤ length (now nodes) ⌝ }
+    requires { ⌜ r .0 * nodeWords + nodeWords ≤ length (now nodes) ⌝ }
     ensures { λ _. ⌜ RowChanged (markedWith mid) (r .0) (now (nodes .entry)) (now (nodes .exit)) ⌝ }
 {
     let n = rows::read_node(nodes, r);
@@ -211,7 +212,7 @@ fn ground_row(nodes: &mut [u64], r: NodeId)
 
 // The rows of the last stored layer.
 pub fn ground_layer(nodes: &mut [u64], from: usize, to: usize)
-    requires { ⌜ to * 8 ≤ length (now nodes) ⌝ }
+    requires { ⌜ to * nodeWords ≤ length (now nodes) ⌝ }
     ensures { λ _. ⌜ LayerGrounded from to (now (nodes .entry)) (now (nodes .exit)) ⌝ }
 {
     let mut i = from;
@@ -223,7 +224,7 @@ pub fn ground_layer(nodes: &mut [u64], from: usize, to: usize)
 
 // A parent gets a mark, and its bottom value is raised.
 fn raise_parent(nodes: &mut [u64], r: NodeId, bottom: u64)
-    requires { ⌜ r .0 * 8 + 8 ≤ length (now nodes) ⌝ }
+    requires { ⌜ r .0 * nodeWords + nodeWords ≤ length (now nodes) ⌝ }
     ensures { λ _. ⌜ RowChanged (raise bottom) (r .0) (now (nodes .entry)) (now (nodes .exit)) ⌝ }
 {
     let n = rows::read_node(nodes, r);

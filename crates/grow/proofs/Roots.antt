@@ -11,7 +11,7 @@ use Rattle.diagram.specs.Node.{Node, fresh}
 use Rattle.diagram.specs.Run.{need}
 use Rattle.diagram.specs.Rule1.{rootOnly, rooted}
 use Rattle.layout.specs.Table.{wordsOf, over}
-use Rattle.layout.specs.Rows.{nodeTable, edgeTable}
+use Rattle.layout.specs.Rows.{nodeWords, nodeTable, edgeTable}
 use Rattle.rows.specs.Access.{NodeWritten}
 use Rattle.branch.specs.declared.Step.the-variants.{Going, Stopped}
 use Rattle.grow.specs.declared.Root.{Root}
@@ -34,7 +34,7 @@ root-refused room r ns h =
           rw f (record { step-is = refl; held = record { nodes-are = no-nodes ns; edges-are = no-edges es } });
     }
 
-pub root-written : (room : ℕ) (r : Root) (ns : List ℕ) (n : Node) (ns′ : List ℕ) → 0 < room → room * 8 ≤ length ns → n ≡ fresh (r .capacity) (r .depth) (r .value) true → NodeWritten ns 0 n ns′ → RootPushed room r ns (Going (record { nodes = 1; edges = 0 })) ns′
+pub root-written : (room : ℕ) (r : Root) (ns : List ℕ) (n : Node) (ns′ : List ℕ) → 0 < room → room * nodeWords ≤ length ns → n ≡ fresh (r .capacity) (r .depth) (r .value) true → NodeWritten ns 0 n ns′ → RootPushed room r ns (Going (record { nodes = 1; edges = 0 })) ns′
 unfolding rooted need rootOnly
 root-written room r ns n ns′ h l q w =
     record {

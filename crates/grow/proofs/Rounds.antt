@@ -16,6 +16,7 @@ use Rattle.diagram.specs.Tables.{Diagram}
 use Rattle.diagram.specs.Run.{Settings, Run, going, stopped, andThen, need, onlyIf}
 use Rattle.diagram.specs.Rule1.{blank, rootOnly, rooted}
 use Rattle.diagram.specs.Rule2.{storeEmpty, storeLast, hasRows, layerStep, grow, grown}
+use Rattle.layout.specs.Rows.{edgeWords, nodeWords}
 use Rattle.theorems.proofs.Layers.{Comes, first, after, comes-ready}
 use Rattle.layers.specs.declared.Layers.{Layers}
 use Rattle.layers.specs.declared.Last.the-variants.{Unsquashed}
@@ -90,8 +91,8 @@ root-underway weights profits t r ns es step ns′ l did p =
 pub record Allowed (weights profits : List ℕ) (t : Task) (oldN oldE : List ℕ) : Type 0 where
   pub limits : InLimits weights profits
   pub some-width : 0 < t .width
-  pub nodes-in : t .rooms .nodes * 8 ≤ length oldN
-  pub edges-in : t .rooms .edges * 5 ≤ length oldE
+  pub nodes-in : t .rooms .nodes * nodeWords ≤ length oldN
+  pub edges-in : t .rooms .edges * edgeWords ≤ length oldE
 
 pub allowed-of : (weights profits : List ℕ) (t : Task) (r : Root) (ns es : List ℕ) → Growable weights profits t r ns es → Allowed weights profits t ns es
 allowed-of weights profits t r ns es a = record { limits = a .limits; some-width = a .some-width; nodes-in = a .nodes-in; edges-in = a .edges-in }

@@ -11,6 +11,7 @@ use Rattle.diagram.specs.Run.{exactly, restricted, relaxing, Settings, isRelaxi
 use Rattle.diagram.specs.Rule2.{byCapacity}
 use Rattle.diagram.specs.Rule5.{withLast, squashIf, squash}
 use Rattle.diagram.specs.Rule6.{sortBy, bySquash, layer, restrict, relax}
+use Rattle.layout.specs.Rows.{nodeWords}
 use Rattle.theorems.proofs.Sort.{sort-perm, perm-mem}
 use Rattle.theorems.proofs.Links.{last-wired}
 use Rattle.order.specs.Below.{Below, none, more, Within}
@@ -33,7 +34,7 @@ use Rattle.grow.specs.Turns.{LayerOrdered, WideSquashed, IfSquashed}
 -- ---- the order
 
 -- rows whose words lie in a table lie whole in it
-pub rows-whole : (t : List ℕ) (first count : ℕ) → (first + count) * 8 ≤ length t → first + count ≤ length t / 8
+pub rows-whole : (t : List ℕ) (first count : ℕ) → (first + count) * nodeWords ≤ length t → first + count ≤ length t / nodeWords
 rows-whole t first count h = omega arith
 
 pub layer-ordered : (start count : ℕ) (ns l₀ l₁ l₂ : List ℕ) → Filled start count l₀ l₁ → Sorted ns byCapacity count l₁ l₂ → LayerOrdered start count ns l₂

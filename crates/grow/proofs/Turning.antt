@@ -16,6 +16,7 @@ use Rattle.diagram.specs.Run.{exactly, restricted, relaxing, Settings}
 use Rattle.diagram.specs.Rule2.{ordered, expandSquashed, layerStep}
 use Rattle.diagram.specs.Rule5.{nameLast, withLast, squashIf, squash}
 use Rattle.diagram.specs.Rule6.{Squashed, layer, halted}
+use Rattle.layout.specs.Rows.{nodeWords}
 use Rattle.theorems.proofs.Holds.{SquashHolds, settled, halts}
 use Rattle.theorems.proofs.Sort.{ordered-length, ordered-in}
 use Rattle.theorems.proofs.Squash.{Settled, Way, squash-settled}
@@ -149,7 +150,7 @@ module _ (weights profits : List ℕ) (t : Task) (r : Record) (oldN oldE : List 
   pub count-few : k .nodes - g .start ≤ 1024
   count-few = omega (arith, count-is, comes-few (at .comes))
 
-  pub rows-in : (g .start + (k .nodes - g .start)) * 8 ≤ length ns
+  pub rows-in : (g .start + (k .nodes - g .start)) * nodeWords ≤ length ns
   rows-in = omega (arith, start-low, nodes-counted, nodes-in d oldN oldE ns es (at .held))
 
   layers-counted : g .layers .count ≡ length (d .layers)

@@ -11,6 +11,7 @@ use Rattle.diagram.specs.Run as Def
 use Rattle.diagram.specs.Run.{exactly, restricted, relaxing, Run, going, stopped, Settings}
 use Rattle.diagram.specs.Rule1.{rooted}
 use Rattle.diagram.specs.Rule6.{sortBy, bySquash, Squashed, restrict, relax}
+use Rattle.layout.specs.Rows.{edgeWords, nodeWords}
 use Rattle.layers.specs.declared.Layers.{Layers}
 use Rattle.layers.specs.declared.Last.{Last}
 use Rattle.layers.specs.Stored.{Sized, stored, lastOf}
@@ -59,5 +60,5 @@ pub record Growable (weights profits : List ℕ) (t : Task) (r : Root) (ns es : 
   pub limits : InLimits weights profits
   pub depth-in : r .depth ≤ length weights
   pub some-width : 0 < t .width
-  pub nodes-in : t .rooms .nodes * 8 ≤ length ns
-  pub edges-in : t .rooms .edges * 5 ≤ length es
+  pub nodes-in : t .rooms .nodes * nodeWords ≤ length ns
+  pub edges-in : t .rooms .edges * edgeWords ≤ length es

@@ -15,7 +15,7 @@ use Rattle.diagram.specs.Rule3.{expandAll}
 use Rattle.diagram.specs.Rule5.{withLast, squashIf}
 use Rattle.diagram.specs.Rule6.{layer}
 use Rattle.layout.specs.Table.{over}
-use Rattle.layout.specs.Rows.{nodeTable}
+use Rattle.layout.specs.Rows.{edgeWords, nodeWords, nodeTable}
 use Rattle.theorems.proofs.Layers.{Comes}
 use Rattle.layers.specs.declared.Layers.{Layers}
 use Rattle.layers.specs.declared.Last.{Last}
@@ -54,8 +54,8 @@ pub record Expandable (weights profits : List ℕ) (count : ℕ) (k : Counts) (r
   pub limits : InLimits weights profits
   pub deep : depth < length weights
   pub fit : Fit (k .nodes) k rooms
-  pub rooms-in : rooms .nodes * 8 ≤ length ns
-  pub edges-in : rooms .edges * 5 ≤ length es
+  pub rooms-in : rooms .nodes * nodeWords ≤ length ns
+  pub edges-in : rooms .edges * edgeWords ≤ length es
   pub places : count ≤ length list
   pub rows-below : Below (k .nodes) (take count list)
   pub sized : Sized layers

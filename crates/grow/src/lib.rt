@@ -6,6 +6,7 @@ ghost use Prim.Native.Nat.{ℕ, _+_, _-_, _*_, _<_, _≤_};
 ghost use lib.Dec.{ltb};
 ghost use lib.ListN.{length, take};
 ghost use Rattle.diagram.specs.Run.{isRelaxing};
+ghost use Rattle.layout.specs.Rows.{nodeWords};
 ghost use Rattle.layers.specs.Stored.{Sized, stored, range, lastOf};
 ghost use Rattle.diagram.specs.Rule5.{nameLast};
 ghost use Rattle.squash.specs.Squashing.{Squashable};
@@ -53,7 +54,7 @@ pub struct Growth {
 
 // 'Row 0 is the root.' It needs a row like any other.
 fn push_root(nodes: &mut [u64], room: usize, r: Root) -> Step
-    requires { ⌜ room * 8 ≤ length (now nodes) ⌝ }
+    requires { ⌜ room * nodeWords ≤ length (now nodes) ⌝ }
     ensures { λ step. ⌜ RootPushed room r (now (nodes .entry)) step (now (nodes .exit)) ⌝ }
 {
     if room == 0 {
@@ -85,7 +86,7 @@ fn too_wide(mode: Mode, width: usize, count: usize, stored: usize) -> bool
 
 // The coming layer's rows, larger capacity first, in the list's first `count` places.
 fn order_layer(nodes: &[u64], list: &mut [usize], start: usize, count: usize)
-    requires { ⌜ (count ≤ length (now list)) × ((start + count) * 8 ≤ length (now nodes)) ⌝ }
+    requires { ⌜ (count ≤ length (now list)) × ((start + count) * nodeWords ≤ length (now nodes)) ⌝ }
     ensures { λ _. ⌜ LayerOrdered start count (now (nodes .entry)) (now (list .exit)) ⌝ }
 {
     order::fill(list, start, count);

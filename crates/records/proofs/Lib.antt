@@ -1,10 +1,12 @@
 -- Laws of record structs in a lent list, and in flat words.
+pub mod Again
 pub mod Chosen
 pub mod Drained
+pub mod Entered
 pub mod Filled
 pub mod Lists
 pub mod Places
 pub mod Removing
-mod Turns
+pub mod Turns
 pub mod Words
 pub mod Written

@@ -1,10 +1,9 @@
 -- A list of record structs and its places: the list's operations on the one are those on the other.
 use mathlib.Core.Path.{_≡_, refl, ap}
 use mathlib.Core.List.{List, [], _∷_, _++_}
-use Prim.Native.Nat.{ℕ, zero, suc, _<_}
-use native.Mathlib.Nat.{le-of-suc-le-suc, not-suc-le-zero}
+use Prim.Native.Nat.{ℕ, zero, suc}
 use lib.ListN.{length, getD, set, take, drop, length-map}
-use Rattle.searches.specs.Places.{Place, noPlace}
+use Rattle.searches.specs.Places.{Place}
 use Rattle.records.specs.declared.Record.{Record}
 use Rattle.records.specs.Structs.{placeFrom, places, noRecord}
 
@@ -40,10 +39,3 @@ unfolding places
 place-at [] i = refl
 place-at (r ∷ rs) zero = refl
 place-at (r ∷ rs) (suc i) = place-at rs i
-
--- the place that a pick names
-pub place-within : (rs : List Record) (i : ℕ) → i < length rs → placeFrom (getD rs i noRecord) ≡ getD (places rs) i noPlace
-unfolding places
-place-within [] i h = absurd (not-suc-le-zero h)
-place-within (r ∷ rs) zero h = refl
-place-within (r ∷ rs) (suc i) h = place-within rs i (le-of-suc-le-suc h)

@@ -7,6 +7,7 @@ use lib.IntN.{ℤ}
 use lib.ListN.{length, getD, take, drop, length-map, length-drop, List·getD-map}
 use lib.Seq.{ext-getD, getD-take, getD-drop, length-take-le}
 use Rattle.words.specs.I64.{number}
+use Rattle.layout.specs.Records.{recordWords}
 use Rattle.records.specs.Structs.{bytesIn, recordIn}
 
 -- the bytes of the 64 words from a place on, when all are read
@@ -21,6 +22,6 @@ bytes-read t from p room l each =
     each j k ∙ sym (List·getD-map byte (take 64 (drop from t)) j 0 ∙ ap byte (getD-take 64 (drop from t) j 0 k ∙ getD-drop from t j 0)))
 
 -- a record read field by field
-pub record-read : (t : List ℕ) (i : ℕ) (value bound : ℤ) (path : List ℕ) → value ≡ number (getD t (i * 68 + 1) 0) → bound ≡ number (getD t (i * 68 + 2) 0) → path ≡ bytesIn t (i * 68 + 4) → record { capacity = getD t (i * 68) 0; value = value; bound = bound; depth = getD t (i * 68 + 3) 0; path = path } ≡ recordIn t i
+pub record-read : (t : List ℕ) (i : ℕ) (value bound : ℤ) (path : List ℕ) → value ≡ number (getD t (i * recordWords + 1) 0) → bound ≡ number (getD t (i * recordWords + 2) 0) → path ≡ bytesIn t (i * recordWords + 4) → record { capacity = getD t (i * recordWords) 0; value = value; bound = bound; depth = getD t (i * recordWords + 3) 0; path = path } ≡ recordIn t i
 unfolding recordIn
 record-read t i value bound path v b p = rw (v, b, p)

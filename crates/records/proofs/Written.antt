@@ -4,15 +4,14 @@ use mathlib.Core.List.{List, [], _∷_, _++_, map, append-assoc}
 use Prim.Native.Nat.{ℕ, zero, suc, _+_, _-_, _*_, _%_, _<_, _≤_}
 use native.Mathlib.Nat.{suc-mul, le-of-suc-le-suc, not-suc-le-zero}
 use native.Mathlib.Omega.{arith}
-use lib.ListN.{length, getD, take, drop, replicate, length-map}
-use lib.Seq.{getD-drop, drop-drop, take-at, drop-append-add, take-suc}
+use lib.ListN.{length, getD, take, drop, replicate}
+use lib.Seq.{getD-drop, drop-drop, take-at, drop-append-add}
 use Rattle.diagram.specs.Record.{Record as Written, padded}
 use Rattle.layout.specs.Table.{wordsOf, over}
-use Rattle.layout.specs.Records.{encodeRecord, recordTable, Roomy}
+use Rattle.layout.specs.Records.{recordWords, encodeRecord, recordTable, Roomy}
 use Rattle.layout.proofs.Records.{padded-length, record-length}
-use Rattle.searches.specs.Places.{Place, placeOf, noPlace}
-use Rattle.records.specs.Structs.{placeFrom, places, bytesIn, recordIn, recordsIn, Bytes, BytePaths}
-use Rattle.records.proofs.Places.{places-append}
+use Rattle.searches.specs.Places.{placeOf, noPlace}
+use Rattle.records.specs.Structs.{placeFrom, bytesIn, recordIn, Bytes, BytePaths}
 
 abbrev byte : ℕ → ℕ
 byte w = w % 256
@@ -37,14 +36,14 @@ unfolding padded
 padded-same path h = bytes-append path (replicate (64 - length path) 0) ∙ ap₂ _++_ (bytes-same path h) (zeros-same (64 - length path))
 
 -- a record's words, and whatever is behind them
-record-here : (t more : List ℕ) (i : ℕ) (r : Written) → drop (i * 68) t ≡ encodeRecord r ++ more → length (r .path) ≤ 64 → Bytes (r .path) → placeFrom (recordIn t i) ≡ placeOf r
+record-here : (t more : List ℕ) (i : ℕ) (r : Written) → drop (i * recordWords) t ≡ encodeRecord r ++ more → length (r .path) ≤ 64 → Bytes (r .path) → placeFrom (recordIn t i) ≡ placeOf r
 unfolding recordIn placeFrom placeOf encodeRecord bytesIn
 record-here t more i r e roomy bytes =
-    let word : (k : ℕ) → getD t (i * 68 + k) 0 ≡ getD (encodeRecord r ++ more) k 0 = λ k. sym (getD-drop (i * 68) t k 0) ∙ ap (λ (l : List ℕ). getD l k 0) e in
-    let z : i * 68 ≡ i * 68 + 0 = omega arith in
-    let first : getD t (i * 68) 0 ≡ r .capacity = ap (λ (k : ℕ). getD t k 0) z ∙ word 0 in
-    let behind : drop (i * 68 + 4) t ≡ padded (r .path) ++ more = sym (drop-drop 4 (i * 68) t) ∙ ap (drop 4) e in
-    let path : map byte (take 64 (drop (i * 68 + 4) t)) ≡ padded (r .path) = rw behind (ap (map byte) (take-at (padded (r .path)) more 64 (padded-length (r .path) roomy)) ∙ padded-same (r .path) bytes) in
+    let word : (k : ℕ) → getD t (i * recordWords + k) 0 ≡ getD (encodeRecord r ++ more) k 0 = λ k. sym (getD-drop (i * recordWords) t k 0) ∙ ap (λ (l : List ℕ). getD l k 0) e in
+    let z : i * recordWords ≡ i * recordWords + 0 = omega arith in
+    let first : getD t (i * recordWords) 0 ≡ r .capacity = ap (λ (k : ℕ). getD t k 0) z ∙ word 0 in
+    let behind : drop (i * recordWords + 4) t ≡ padded (r .path) ++ more = sym (drop-drop 4 (i * recordWords) t) ∙ ap (drop 4) e in
+    let path : map byte (take 64 (drop (i * recordWords + 4) t)) ≡ padded (r .path) = rw behind (ap (map byte) (take-at (padded (r .path)) more 64 (padded-length (r .path) roomy)) ∙ padded-same (r .path) bytes) in
     rw (first, word 1, word 2, word 3, path)
 
 -- some record, for what lies past the end
@@ -52,14 +51,14 @@ abbrev noWritten : Written
 noWritten = record { capacity = 0; value = 0; bound = 0; depth = 0; path = [] }
 
 -- the words from record i on
-words-from : (rs : List Written) (rest : List ℕ) (i : ℕ) → Roomy rs → i < length rs → drop (i * 68) (recordTable rs ++ rest) ≡ encodeRecord (getD rs i noWritten) ++ (recordTable (drop (suc i) rs) ++ rest)
+words-from : (rs : List Written) (rest : List ℕ) (i : ℕ) → Roomy rs → i < length rs → drop (i * recordWords) (recordTable rs ++ rest) ≡ encodeRecord (getD rs i noWritten) ++ (recordTable (drop (suc i) rs) ++ rest)
 unfolding recordTable wordsOf
 words-from [] rest i roomy h = absurd (not-suc-le-zero h)
 words-from (r ∷ rs) rest zero roomy h = append-assoc (encodeRecord r) (recordTable rs) rest
 words-from (r ∷ rs) rest (suc i) roomy h =
     let l : length (encodeRecord r) ≡ 68 = record-length r (roomy .0) in
-    let z : suc i * 68 ≡ length (encodeRecord r) + i * 68 = omega (arith, suc-mul i 68) in
-    rw (z, append-assoc (encodeRecord r) (recordTable rs) rest) (drop-append-add (encodeRecord r) (recordTable rs ++ rest) (i * 68) ∙ words-from rs rest i (roomy .1) (le-of-suc-le-suc h))
+    let z : suc i * recordWords ≡ length (encodeRecord r) + i * recordWords = omega (arith, suc-mul i 68) in
+    rw (z, append-assoc (encodeRecord r) (recordTable rs) rest) (drop-append-add (encodeRecord r) (recordTable rs ++ rest) (i * recordWords) ∙ words-from rs rest i (roomy .1) (le-of-suc-le-suc h))
 
 path-of : (rs : List Written) (i : ℕ) → Roomy rs → BytePaths rs → i < length rs → (length (getD rs i noWritten .path) ≤ 64) × Bytes (getD rs i noWritten .path)
 path-of [] i roomy bytes h = absurd (not-suc-le-zero h)
@@ -76,14 +75,4 @@ pub record-is : (rs : List Written) (old t : List ℕ) (i : ℕ) → t ≡ over 
 unfolding over
 record-is rs old t i e roomy bytes h =
     let p = path-of rs i roomy bytes h in
-    record-here t _ i (getD rs i noWritten) (ap (drop (i * 68)) e ∙ words-from rs (drop (length (recordTable rs)) old) i roomy h) (p .0) (p .1) ∙ place-in rs i h
-
--- the first n of the words are the first n that were written
-pub records-are : (rs : List Written) (old t : List ℕ) (n : ℕ) → t ≡ over (recordTable rs) old → Roomy rs → BytePaths rs → n ≤ length rs → places (recordsIn t n) ≡ take n (map placeOf rs)
-unfolding recordsIn places
-records-are rs old t zero e roomy bytes h = refl
-records-are rs old t (suc n) e roomy bytes h =
-    let l : n < length (map placeOf rs) = omega (arith, length-map rs placeOf) in
-    places-append (recordsIn t n) (recordIn t n ∷ [])
-    ∙ ap₂ _++_ (records-are rs old t n e roomy bytes (omega arith)) (ap (λ (p : Place). p ∷ []) (record-is rs old t n e roomy bytes h))
-    ∙ sym (take-suc (map placeOf rs) n noPlace l)
+    record-here t _ i (getD rs i noWritten) (ap (drop (i * recordWords)) e ∙ words-from rs (drop (length (recordTable rs)) old) i roomy h) (p .0) (p .1) ∙ place-in rs i h

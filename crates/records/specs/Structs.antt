@@ -1,6 +1,6 @@
 -- Which place of the definition's lists a record struct of the code stands for, and which record struct stands in flat words.
-use mathlib.Core.List.{List, [], _∷_, _++_, map}
-use Prim.Native.Nat.{ℕ, zero, suc, _+_, _*_, _%_, _<_}
+use mathlib.Core.List.{List, [], _∷_, map}
+use Prim.Native.Nat.{ℕ, _+_, _*_, _%_, _<_}
 use lib.IntN.{pos}
 use lib.ListN.{getD, take, drop, replicate}
 use Rattle.words.specs.I64.{number}
@@ -35,11 +35,6 @@ recordIn t i =
       depth = getD t (i * recordWords + 3) 0;
       path = bytesIn t (i * recordWords + 4);
     }
-
--- the first n records of a flat list
-unfoldable pub recordsIn : List ℕ → ℕ → List Record
-recordsIn t zero = []
-recordsIn t (suc n) = recordsIn t n ++ (recordIn t n ∷ [])
 
 -- each number of the list is a byte
 abbrev pub Bytes : List ℕ → Type 0

@@ -1,11 +1,12 @@
-// Records as structs in a lent list: one put in a place and got from one, one removed and others moved down, those of another list appended, and records taken from flat words.
+// Records as structs in a lent list: one got from a place, one removed and others moved down, those of another list appended, and one taken from flat words.
 ghost use mathlib.Core.Path.{_≡_};
-ghost use mathlib.Core.List.{[], _∷_, _++_};
-ghost use Prim.Native.Nat.{ℕ, _+_, _*_, _^_, _<_, _≤_};
-ghost use lib.ListN.{length, getD, set, take, drop};
+ghost use mathlib.Core.List.{[], _∷_};
+ghost use Prim.Native.Nat.{_+_, _*_, _^_, _<_, _≤_};
+ghost use lib.ListN.{length, getD, take};
 ghost use lib.Signed.{ltZ};
+ghost use Rattle.layout.specs.Records.{recordWords};
 ghost use Rattle.searches.specs.Search.{aboveBest};
-ghost use Rattle.records.specs.Structs.{noRecord, placeFrom, places, recordIn, recordsIn, bytesIn};
+ghost use Rattle.records.specs.Structs.{noRecord, placeFrom, places, recordIn, bytesIn};
 ghost use Rattle.records.specs.Moves.{Removed, Appended};
 use rows::PATH_ROOM;
 use rows::RECORD_WORDS;
@@ -19,20 +20,24 @@ pub struct Record {
     pub path: [u8; 64],
 }
 
-// Stores a record in a place of the list.
-pub fn put(rs: &mut [Record], i: usize, r: Record)
-    requires { ⌜ i < length (now rs) ⌝ }
-    ensures { λ _. ⌜ now (rs .exit) ≡ set (now (rs .entry)) i r ⌝ }
+// A record all 0.
+fn empty() -> Record
+    ensures { λ r. ⌜ r ≡ noRecord ⌝ }
 {
-    rs[i] = r;
+    Record {
+        capacity: 0,
+        value: 0,
+        bound: 0,
+        depth: 0,
+        path: [0u8; 64],
+    }
 }
 
-// The record in a place of the list.
+// The record in a place of the list, or an empty one beyond its end.
 pub fn get(rs: &[Record], i: usize) -> Record
-    requires { ⌜ i < length (now rs) ⌝ }
     ensures { λ r. ⌜ r ≡ getD (now (rs .entry)) i noRecord ⌝ }
 {
-    rs[i]
+    if i < rs.len() { rs[i] } else { empty() }
 }
 
 // Of the first n records those after place `at` move down by one. Place n - 1 and those behind it keep what they held.
@@ -111,7 +116,7 @@ fn read_path(words: &[u64], from: usize) -> [u8; 64]
 
 // Record number i of a flat list of words.
 pub fn from_words(words: &[u64], i: usize) -> Record
-    requires { ⌜ i * 68 + 68 ≤ length (now words) ⌝ }
+    requires { ⌜ i * recordWords + recordWords ≤ length (now words) ⌝ }
     ensures { λ r. ⌜ r ≡ recordIn (now (words .entry)) i ⌝ }
 {
     let at = i * RECORD_WORDS;
@@ -124,17 +129,5 @@ pub fn from_words(words: &[u64], i: usize) -> Record
         bound: bound,
         depth: words[at + 3],
         path: path,
-    }
-}
-
-// Stores the first n records of a flat list of words at place `at` and behind it.
-pub fn unpack(rs: &mut [Record], at: usize, words: &[u64], n: usize)
-    requires { ⌜ (at + n ≤ length (now rs)) × (n * 68 ≤ length (now words)) ⌝ }
-    ensures { λ _. ⌜ now (rs .exit) ≡ take at (now (rs .entry)) ++ recordsIn (now (words .entry)) n ++ drop (at + n) (now (rs .entry)) ⌝ }
-{
-    let mut j = 0;
-    while j < n {
-        rs[at + j] = from_words(words, j);
-        j += 1;
     }
 }

@@ -1,24 +1,14 @@
 // An answer: the numbers that tell it, and the tables after the call.
-ghost use Rattle.io.specs.Counts.{Counts};
-use crate::output;
-use crate::output::put;
-use crate::output::put_list;
-use crate::output::put_path;
 use compile::Answer;
 use finalize::Value;
 use layers::Layers;
-use refusals::Verdict;
-
-fn number_of(v: Verdict) -> u64 {
-    match v {
-        Verdict::Accepted => 0,
-        Verdict::Refused(n) => n,
-    }
-}
-
-fn flag(b: bool) -> u64 {
-    if b { 1 } else { 0 }
-}
+use lines::flag;
+use lines::number_of;
+use lines::output;
+use lines::output::put;
+use lines::output::put_list;
+use lines::output::put_path;
+use lines::tables::put_table;
 
 // A best value: 1 and its word, or 0 and 0.
 fn put_value(out: &mut [u8; 65536], at: usize, v: Value) -> usize {
@@ -62,30 +52,6 @@ pub fn put_answer(out: &mut [u8; 65536], at: usize, a: Answer) -> usize {
         &[a.nodes as u64, a.edges as u64, a.drained as u64],
     );
     put_layers(out, end, layers)
-}
-
-// How many words there are up to the last that isn't as before.
-fn changed(table: &[u64], start: u64, step: u64) -> usize
-    ensures { λ r. ⌜ Counts r (now (table .entry)) ⌝ }
-{
-    let mut old = start;
-    let mut last = 0;
-    let mut i = 0;
-    while i < table.len() {
-        if table[i] != old {
-            last = i + 1;
-        }
-        old = std::num::wrapping_add_u64(old, step);
-        i += 1;
-    }
-    last
-}
-
-// A table after the call: the number of words up to the last that changed, and these words.
-fn put_table(out: &mut [u8; 65536], at: usize, table: &[u64], start: u64, step: u64) -> usize {
-    let count = changed(table, start, step);
-    let behind = put(out, at, count as u64);
-    put_list(out, behind, &table[..count])
 }
 
 // The lent tables after the call, and the answer's end.

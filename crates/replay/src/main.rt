@@ -1,28 +1,18 @@
 // Reads requests for `compile` from standard input and answers each with what the call answers and leaves in the lent tables. tools/oracle/README.md has the format.
 mod answers;
-mod input;
-mod output;
 mod requests;
 
-ghost use Prim.Native.Nat.{_≤_};
 use compile::Answer;
-use input::Input;
+use lines::at_most;
+use lines::input;
+use lines::input::Input;
+use lines::output;
+use lines::tables::fill;
 
 // How far the program has come: its reading, and the bytes of its output that aren't written out yet.
 struct Stand {
     input: Input,
     at: usize,
-}
-
-// Old contents of a lent table: word i is start + i * step, modulo 2^64.
-fn fill(table: &mut [u64], start: u64, step: u64) {
-    let mut old = start;
-    let mut i = 0;
-    while i < table.len() {
-        table[i] = old;
-        old = std::num::wrapping_add_u64(old, step);
-        i += 1;
-    }
 }
 
 // Puts old contents into the lent tables.
@@ -63,13 +53,6 @@ fn call(
     let a = compiled(head, weights, profits, path, nodes, edges, records);
     let first = answers::put_answer(out, at, a);
     answers::put_tables(out, first, nodes, edges, records, head)
-}
-
-// So many, and no more than there are.
-fn at_most(n: u64, most: usize) -> usize
-    ensures { λ r. ⌜ r ≤ most ⌝ }
-{
-    if n < most as u64 { n as usize } else { most }
 }
 
 // The call over the first words of these tables, so many as the request lends.

@@ -1,10 +1,10 @@
 // A request: its numbers as they are read, and what they ask. The first 19 stand in `head`, in the order of tools/oracle/README.md.
-use crate::input;
-use crate::input::Input;
-use crate::input::State;
 use compile::Request;
 use cutset::Kind;
 use grow::Mode;
+use lines::input;
+use lines::input::Input;
+use lines::input::State;
 
 fn mode_of(n: u64) -> Mode {
     if n == 0 {

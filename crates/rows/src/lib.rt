@@ -4,9 +4,10 @@ ghost use mathlib.Core.List.{List, [], _∷_, _++_};
 ghost use Prim.Native.Nat.{ℕ, suc, _+_, _*_, _<_, _≤_};
 ghost use lib.ListN.{length, set};
 ghost use lib.Seq.{paste};
+ghost use Rattle.layout.specs.Records.{recordWords};
 ghost use Rattle.rows.specs.Values.{nodeOf, edgeOf};
 ghost use Rattle.rows.specs.Access.{NodeRead, FieldRead, NodeWritten, EdgeRead, EdgeWritten, RecordWritten};
-ghost use Rattle.layout.specs.Rows.{digit, flagsWord};
+ghost use Rattle.layout.specs.Rows.{edgeWords, nodeWords, digit, flagsWord};
 
 pub const NODE_WORDS: usize = 8;
 
@@ -52,7 +53,7 @@ pub struct Edge {
 
 // Row n of a table of nodes, or of a part of one that starts at a row.
 pub fn read_node(nodes: &[u64], n: NodeId) -> Node
-    requires { ⌜ n .0 * 8 + 8 ≤ length (now nodes) ⌝ }
+    requires { ⌜ n .0 * nodeWords + nodeWords ≤ length (now nodes) ⌝ }
     ensures { λ r. ⌜ NodeRead (now (nodes .entry)) (n .0) (nodeOf r) ⌝ }
 {
     let at = n.0 * NODE_WORDS;
@@ -88,7 +89,7 @@ fn flags_word(n: Node) -> u64
 
 // Writes row n of such a table: one that is there, or the next.
 pub fn write_node(nodes: &mut [u64], n: NodeId, x: Node)
-    requires { ⌜ n .0 * 8 + 8 ≤ length (now nodes) ⌝ }
+    requires { ⌜ n .0 * nodeWords + nodeWords ≤ length (now nodes) ⌝ }
     ensures { λ _. ⌜ NodeWritten (now (nodes .entry)) (n .0) (nodeOf x) (now (nodes .exit)) ⌝ }
 {
     let at = n.0 * NODE_WORDS;
@@ -105,7 +106,7 @@ pub fn write_node(nodes: &mut [u64], n: NodeId, x: Node)
 
 // Row e of a table of edges.
 pub fn read_edge(edges: &[u64], e: EdgeId) -> Edge
-    requires { ⌜ e .0 * 5 + 5 ≤ length (now edges) ⌝ }
+    requires { ⌜ e .0 * edgeWords + edgeWords ≤ length (now edges) ⌝ }
     ensures { λ r. ⌜ EdgeRead (now (edges .entry)) (e .0) (edgeOf r) ⌝ }
 {
     let at = e.0 * EDGE_WORDS;
@@ -120,7 +121,7 @@ pub fn read_edge(edges: &[u64], e: EdgeId) -> Edge
 
 // Writes row e of such a table: one that is there, or the next.
 pub fn write_edge(edges: &mut [u64], e: EdgeId, x: Edge)
-    requires { ⌜ e .0 * 5 + 5 ≤ length (now edges) ⌝ }
+    requires { ⌜ e .0 * edgeWords + edgeWords ≤ length (now edges) ⌝ }
     ensures { λ _. ⌜ EdgeWritten (now (edges .entry)) (e .0) (edgeOf x) (now (edges .exit)) ⌝ }
 {
     let at = e.0 * EDGE_WORDS;
@@ -133,7 +134,7 @@ pub fn write_edge(edges: &mut [u64], e: EdgeId, x: Edge)
 
 // A node's capacity alone, for the orders of a layer: eight reads for one number would be a waste.
 pub fn read_capacity(nodes: &[u64], n: NodeId) -> u64
-    requires { ⌜ n .0 * 8 + 8 ≤ length (now nodes) ⌝ }
+    requires { ⌜ n .0 * nodeWords + nodeWords ≤ length (now nodes) ⌝ }
     ensures { λ r. ⌜ FieldRead (now (nodes .entry)) (n .0) (λ x. x .capacity) r ⌝ }
 {
     nodes[n.0 * NODE_WORDS]
@@ -141,7 +142,7 @@ pub fn read_capacity(nodes: &[u64], n: NodeId) -> u64
 
 // A node's value alone, as its word.
 pub fn read_value(nodes: &[u64], n: NodeId) -> u64
-    requires { ⌜ n .0 * 8 + 8 ≤ length (now nodes) ⌝ }
+    requires { ⌜ n .0 * nodeWords + nodeWords ≤ length (now nodes) ⌝ }
     ensures { λ r. ⌜ FieldRead (now (nodes .entry)) (n .0) (λ x. x .value) r ⌝ }
 {
     nodes[n.0 * NODE_WORDS + 2]
@@ -175,7 +176,7 @@ pub fn write_record(
     depth: u64,
     bytes: [u8; 64],
 )
-    requires { ⌜ r * 68 + 68 ≤ length (now list) ⌝ }
+    requires { ⌜ r * recordWords + recordWords ≤ length (now list) ⌝ }
     ensures { λ _. ⌜ RecordWritten (now (list .entry)) r capacity value bound depth bytes (now (list .exit)) ⌝ }
 {
     let at = r * RECORD_WORDS;

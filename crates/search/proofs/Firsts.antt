@@ -22,7 +22,7 @@ use Rattle.search.specs.Refused.{pickFirst}
 
 -- ---- the first of two lists that applies: that of the one before, or of the other where that has none
 
-first-before : (cs ds : List Check) (n : ℕ) → firstOf cs ≡ some n → firstOf (cs ++ ds) ≡ some n
+pub first-before : (cs ds : List Check) (n : ℕ) → firstOf cs ≡ some n → firstOf (cs ++ ds) ≡ some n
 unfolding firstOf
 first-before [] ds n = λ e. let z : _≡_ {A = ℕ} 0 1 = cc in absurd (omega arith)
 first-before (c ∷ cs) ds n =
@@ -30,7 +30,7 @@ first-before (c ∷ cs) ds n =
     (λ t e. e)
     (λ t e. first-before cs ds n e)
 
-first-behind : (cs ds : List Check) → firstOf cs ≡ none → firstOf (cs ++ ds) ≡ firstOf ds
+pub first-behind : (cs ds : List Check) → firstOf cs ≡ none → firstOf (cs ++ ds) ≡ firstOf ds
 unfolding firstOf
 first-behind [] ds = λ e. refl
 first-behind (c ∷ cs) ds =
@@ -108,7 +108,7 @@ then-record q s list e = parts q s list ∙ first-behind _ (recordChecks (q .pro
 
 -- ---- what has passed where 1 to 6 and 14 don't apply
 
-none-before : (cs ds : List Check) → firstOf (cs ++ ds) ≡ none → firstOf cs ≡ none
+pub none-before : (cs ds : List Check) → firstOf (cs ++ ds) ≡ none → firstOf cs ≡ none
 none-before cs ds e = go (firstOf cs) refl
   where
     go : (x : Option ℕ) → firstOf cs ≡ x → firstOf cs ≡ none

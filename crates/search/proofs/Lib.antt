@@ -3,6 +3,5 @@ pub mod Firsts
 pub mod Asking
 pub mod Values
 pub mod Answers
-pub mod Whole
 pub mod Starting
 pub mod Twice

@@ -3,7 +3,6 @@ ghost use mathlib.Core.Path.{_≡_};
 ghost use mathlib.Core.Bool.{true};
 ghost use Prim.Native.Nat.{ℕ, _<_};
 ghost use lib.ListN.{length};
-ghost use lib.Signed.{ltZ};
 ghost use Rattle.knapsack.specs.Limits.{InLimits};
 ghost use Rattle.calls.specs.Refusals.{firstOf, recordChecks};
 ghost use Rattle.refusals.specs.Verdict.{refusalOf};
@@ -14,13 +13,11 @@ ghost use Rattle.searches.specs.Start.{startRefusal, begun, start};
 ghost use Rattle.searches.specs.Pick.{pickCheck, better, counted, refusedBy, accepted};
 ghost use Rattle.search.specs.Held.{searchOf, noSearch, optionOf};
 ghost use Rattle.search.specs.Answered.{startAnswer, startedFrom, pickedFrom};
-ghost use Rattle.search.specs.Asked.{problemOf, requestFrom};
+ghost use Rattle.search.specs.Asked.{problemOf};
 ghost use Rattle.search.specs.Begins.{isStarted, putIf, Begins};
 ghost use Rattle.search.specs.Refused.{pickFirst};
-use compile::Request;
 use cutset::Kind;
 use finalize::Value;
-use grow::Mode;
 use records::Record;
 use refusals::Verdict;
 
@@ -29,6 +26,13 @@ const LARGEST: i64 = 9223372036854775807;
 
 // A u64's largest number: no pick is counted beyond it.
 const MOST_PICKS: u64 = 18446744073709551615;
+
+// How a search is asked: the page, and how each record is compiled.
+pub struct Ask {
+    pub page: u64,
+    pub width: u64,
+    pub kind: Kind,
+}
 
 // What a search holds. The path is all 0 where none is held.
 pub struct Search {
@@ -123,11 +127,11 @@ pub fn start_answer(verdict: Verdict, bound: i64) -> Started
 }
 
 // The root record, which a start writes in the list's first place.
-pub fn root_record(page: u64) -> Record
-    ensures { λ r. ⌜ placeFrom r ≡ rootPlace page ⌝ }
+pub fn root_record(ask: Ask) -> Record
+    ensures { λ r. ⌜ placeFrom r ≡ rootPlace (ask .page) ⌝ }
 {
     Record {
-        capacity: page,
+        capacity: ask.page,
         value: 0,
         bound: LARGEST,
         depth: 0,
@@ -195,13 +199,6 @@ pub fn record_verdict(weights: &[u64], profits: &[u64], page: u64, r: Record) ->
     )
 }
 
-// Whether a record's bound is above the best value, so that it is compiled.
-pub fn is_above(s: Search, r: Record) -> bool
-    ensures { λ b. ⌜ b ≡ ltZ (s .best) (r .bound) ⌝ }
-{
-    s.best < r.bound
-}
-
 // A strictly larger best exact value replaces best and path.
 pub fn better(s: Search, best_exact: Value, path: [u8; 64]) -> Search
     ensures { λ r. ⌜ searchOf r ≡ better (optionOf «best_exact») path (searchOf s) ⌝ }
@@ -259,35 +256,11 @@ pub fn accepted_pick(s: Search, opened: usize) -> Picked
     }
 }
 
-// What is compiled for a picked record: relaxed, with the best value as lower bound.
-pub fn request_of(page: u64, width: u64, kind: Kind, s: Search, r: Record) -> Request
-    ensures { λ q. ⌜ q ≡ requestFrom page width kind s r ⌝ }
-{
-    Request {
-        page: page,
-        width: width,
-        mode: Mode::Relaxed,
-        kind: kind,
-        lower: s.best,
-        capacity: r.capacity,
-        value: r.value,
-        bound: r.bound,
-        depth: r.depth,
-    }
-}
-
 // A start's answer. It asks of the list how many places it has, and nothing of what they hold.
-pub fn started_by(
-    weights: &[u64],
-    profits: &[u64],
-    page: u64,
-    width: u64,
-    bound: i64,
-    places: usize,
-) -> Started
-    ensures { λ a. ⌜ a ≡ startedFrom (startAnswer (startRefusal (problemOf (now (weights .entry)) (now (profits .entry)) page width) places) bound) ⌝ }
+pub fn started_by(weights: &[u64], profits: &[u64], ask: Ask, bound: i64, places: usize) -> Started
+    ensures { λ a. ⌜ a ≡ startedFrom (startAnswer (startRefusal (problemOf (now (weights .entry)) (now (profits .entry)) (ask .page) (ask .width)) places) bound) ⌝ }
 {
-    let verdict = start_verdict(weights, profits, page, width, places);
+    let verdict = start_verdict(weights, profits, ask.page, ask.width, places);
     start_answer(verdict, bound)
 }
 
@@ -313,20 +286,13 @@ fn put_first(list: &mut [Record], wanted: bool, r: Record)
 }
 
 // A start checks 1 to 6, then 13, and writes the root record in the list's first place. Refused, it gives no search and leaves the list unchanged.
-pub fn start(
-    weights: &[u64],
-    profits: &[u64],
-    page: u64,
-    width: u64,
-    bound: i64,
-    list: &mut [Record],
-) -> Started
-    ensures { λ a. ⌜ Begins (start (problemOf (now (weights .entry)) (now (profits .entry)) page width) bound (places (now (list .entry)))) a (places (now (list .exit))) ⌝ }
+pub fn start(weights: &[u64], profits: &[u64], ask: Ask, bound: i64, list: &mut [Record]) -> Started
+    ensures { λ a. ⌜ Begins (start (problemOf (now (weights .entry)) (now (profits .entry)) (ask .page) (ask .width)) bound (places (now (list .entry)))) a (places (now (list .exit))) ⌝ }
 {
     let n = list.len();
-    let answer = started_by(weights, profits, page, width, bound, n);
+    let answer = started_by(weights, profits, ask, bound, n);
     let wanted = is_started(answer);
-    let root = root_record(page);
+    let root = root_record(ask);
     put_first(list, wanted, root);
     answer
 }

@@ -11,6 +11,7 @@ use Rattle.diagram.specs.Node.{Node, nodeAt, update, withDeleted}
 use Rattle.diagram.specs.Tables.{Diagram, withNodes, inbound}
 use Rattle.diagram.specs.Run.{Settings, Run, going, stopped}
 use Rattle.diagram.specs.Rule6.{copyEdges, mergeAll}
+use Rattle.layout.specs.Rows.{nodeWords}
 use Rattle.theorems.proofs.Holds.{Holds, held-inv}
 use Rattle.theorems.proofs.Rows.{update-at, inbound-back}
 use Rattle.theorems.proofs.Merge.{MergeTrail, merging-merged, Ending, copy-trail}
@@ -208,7 +209,7 @@ module _ (start : ℕ) (k₀ : Counts) (rooms : Rooms) (m from count : ℕ) (lis
       mem : List·Memᴰ r (drop from (take count list))
       mem = mem-from list from count i r l f b rq
 
-      pub merge-reads : Sits start k₀ rooms m (drop from (take count list)) ns₀ es₀ → r * 8 + 8 ≤ length ns
+      pub merge-reads : Sits start k₀ rooms m (drop from (take count list)) ns₀ es₀ → r * nodeWords + nodeWords ≤ length ns
       merge-reads sit =
           let a = turn .so-far (sit .settings) (sit .diagram) (sit .oldN) (sit .oldE) (sit .merges) in
           omega (arith, a .merges .mergeable .wired .rest-deps r mem .0, nodes-in (a .now) (sit .oldN) (sit .oldE) ns es (a .merges .held))

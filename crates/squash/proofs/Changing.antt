@@ -7,7 +7,7 @@ use lib.ListN.{length, getD, set, take, drop}
 use lib.Seq.{getD-take, length-take-le, drop-cons}
 use Rattle.diagram.specs.Node.{Node}
 use Rattle.layout.specs.Table.{over}
-use Rattle.layout.specs.Rows.{nodeTable}
+use Rattle.layout.specs.Rows.{nodeWords, nodeTable}
 use Rattle.rows.specs.Access.{NodeRead, NodeWritten}
 use Rattle.squash.specs.Places.{Placed, RowChanged}
 
@@ -36,5 +36,5 @@ module _ (list : List ℕ) (count i : ℕ) (l : count ≤ length list) (h : i < 
   row-mem = rw (getD-take count list i 0 h) at (place-mem (take count list) i in-rows)
 
 -- so the row that a place names lies whole in the table
-pub row-inside : (list : List ℕ) (count : ℕ) (t : List ℕ) (i r : ℕ) → Placed list count t → i < count → r ≡ getD list i 0 → r * 8 + 8 ≤ length t
+pub row-inside : (list : List ℕ) (count : ℕ) (t : List ℕ) (i r : ℕ) → Placed list count t → i < count → r ≡ getD list i 0 → r * nodeWords + nodeWords ≤ length t
 row-inside list count t i r p h e = rw e (p .inside (getD list i 0) (row-mem list count i (p .places) h))

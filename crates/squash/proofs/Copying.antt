@@ -13,6 +13,7 @@ use Rattle.diagram.specs.Tables.{Diagram, inboundBelow, inbound}
 use Rattle.diagram.specs.Run.{Settings, Run, going, stopped, need}
 use Rattle.diagram.specs.Rule4.{pushEdge, addEdge}
 use Rattle.diagram.specs.Rule6.{copyEdges}
+use Rattle.layout.specs.Rows.{edgeWords, nodeWords}
 use Rattle.theorems.proofs.Links.{newestBelow}
 use Rattle.rows.specs.Access.{NodeRead, EdgeRead}
 use Rattle.branch.specs.declared.Counts.{Counts}
@@ -114,7 +115,7 @@ row-in : (m r : ℕ) (d : Diagram) → Mergeable m (r ∷ []) d → r < length (
 row-in m r d g = g .wired .rest-deps r (List·Memᴰ·head refl) .0
 
 module _ (start : ℕ) (k₀ : Counts) (rooms : Rooms) (m r : ℕ) (ns₀ es₀ : List ℕ) where
-  pub copy-reads-row : Sits start k₀ rooms m (r ∷ []) ns₀ es₀ → r * 8 + 8 ≤ length ns₀
+  pub copy-reads-row : Sits start k₀ rooms m (r ∷ []) ns₀ es₀ → r * nodeWords + nodeWords ≤ length ns₀
   copy-reads-row sit =
       let g = sit .merges in
       omega (arith, row-in m r (sit .diagram) (g .mergeable), nodes-in (sit .diagram) (sit .oldN) (sit .oldE) ns₀ es₀ (g .held))
@@ -176,7 +177,7 @@ module _ (start : ℕ) (k₀ : Counts) (rooms : Rooms) (m r : ℕ) (ns₀ es₀ 
         }
 
     module _ (sit : Sits start k₀ rooms m (r ∷ []) ns₀ es₀) (z : 0 < link) where
-      pub copy-reads-edge : (link - 1) * 5 + 5 ≤ length es
+      pub copy-reads-edge : (link - 1) * edgeWords + edgeWords ≤ length es
       copy-reads-edge =
           let c = turn .so-far (sit .settings) (sit .diagram) (sit .oldN) (sit .oldE) (sit .merges) in
           omega (arith, this-in (sit .settings) (sit .diagram) (sit .oldN) (sit .oldE) (sit .merges) z, c .more, edges-in (c .now) (sit .oldN) (sit .oldE) ns es (c .held))

@@ -14,7 +14,7 @@ use Rattle.diagram.specs.Run.{Settings, Run, going, stopped}
 use Rattle.diagram.specs.Rule4.{pushNode}
 use Rattle.diagram.specs.Rule6.{mergedRow, mergeAll, mergeInto, squashed, squashNeed}
 use Rattle.layout.specs.Table.{over}
-use Rattle.layout.specs.Rows.{nodeTable}
+use Rattle.layout.specs.Rows.{nodeWords, nodeTable}
 use Rattle.theorems.proofs.Links.{WiredMerge, node-wired, node-is, node-was}
 use Rattle.rows.specs.Access.{NodeRead, NodeWritten}
 use Rattle.branch.specs.declared.Counts.{Counts}
@@ -83,7 +83,7 @@ module _ (start : ℕ) (k : Counts) (rooms : Rooms) (capacity keep count : ℕ) 
     pub new-ready : Ready start k rooms ns es
     new-ready = ready-of (sit .diagram) (sit .oldN) (sit .oldE) ns es (sit .squashes .held) (sit .settings) start k rooms (sit .squashes .stands)
 
-    pub new-reads : (r : ℕ) → r ≡ getD list keep 0 → r * 8 + 8 ≤ length ns
+    pub new-reads : (r : ℕ) → r ≡ getD list keep 0 → r * nodeWords + nodeWords ≤ length ns
     new-reads r q =
         let g = sit .squashes in
         let i : List·Memᴰ r (take count list) = rw q (row-mem list count keep (sit .places) (sit .wide)) in

@@ -27,19 +27,19 @@ over-long : (ws old : List ℕ) → (length ws ≤ length (over ws old)) × (len
 unfolding over
 over-long ws old = simp (length-append, length-drop) (omega arith)
 
-node-table-long : (ns : List Node) → length (nodeTable ns) ≡ length ns * 8
+node-table-long : (ns : List Node) → length (nodeTable ns) ≡ length ns * nodeWords
 unfolding nodeTable
 node-table-long ns = length-words encodeNode nodeWords node-width ns
 
-edge-table-long : (es : List Edge) → length (edgeTable es) ≡ length es * 5
+edge-table-long : (es : List Edge) → length (edgeTable es) ≡ length es * edgeWords
 unfolding edgeTable
 edge-table-long es = length-words encodeEdge edgeWords edge-width es
 
 module _ (d : Diagram) (oldN oldE ns es : List ℕ) (held : Held d oldN oldE ns es) where
-  pub nodes-in : length (d .nodes) * 8 ≤ length ns
+  pub nodes-in : length (d .nodes) * nodeWords ≤ length ns
   nodes-in = rw (held .nodes-are) (omega (arith, over-long (nodeTable (d .nodes)) oldN .0, node-table-long (d .nodes)))
 
-  pub edges-in : length (d .edges) * 5 ≤ length es
+  pub edges-in : length (d .edges) * edgeWords ≤ length es
   edges-in = rw (held .edges-are) (omega (arith, over-long (edgeTable (d .edges)) oldE .0, edge-table-long (d .edges)))
 
   old-nodes-in : length oldN ≤ length ns

@@ -11,6 +11,7 @@ use Rattle.diagram.specs.Node.{Node, nodeAt, update, withDeleted, asRelaxed}
 use Rattle.diagram.specs.Tables.{Diagram, at, withNodes}
 use Rattle.diagram.specs.Run.{Settings, Run, going, stopped}
 use Rattle.diagram.specs.Rule6.{twinOf, mergeAll, squashed, keepFirst}
+use Rattle.layout.specs.Rows.{nodeWords}
 use Rattle.theorems.proofs.Links.{SameLinks}
 use Rattle.branch.specs.declared.Counts.{Counts}
 use Rattle.branch.specs.declared.Rooms.{Rooms}
@@ -59,7 +60,7 @@ twin-merges s d oldN oldE start k rooms keep count m list ns es i g =
 
 module _ (start : ℕ) (k : Counts) (rooms : Rooms) (m : ℕ) (rest ns es : List ℕ) where
   -- the row that is merged into lies whole in the table
-  pub twin-reads : Sits start k rooms m rest ns es → m * 8 + 8 ≤ length ns
+  pub twin-reads : Sits start k rooms m rest ns es → m * nodeWords + nodeWords ≤ length ns
   twin-reads sit =
       let g = sit .merges in
       omega (arith, g .mergeable .merged-in, nodes-in (sit .diagram) (sit .oldN) (sit .oldE) ns es (g .held))
@@ -79,7 +80,7 @@ module _ (start : ℕ) (k : Counts) (rooms : Rooms) (m : ℕ) (rest ns es : List
       }
 
 module _ (start : ℕ) (k : Counts) (rooms : Rooms) (m keep count : ℕ) (list ns es : List ℕ) where
-  pub first-reads : Sits start k rooms m (drop keep (take count list)) ns es → keep < count → count ≤ length list → (r : ℕ) → r ≡ getD list keep 0 → r * 8 + 8 ≤ length ns
+  pub first-reads : Sits start k rooms m (drop keep (take count list)) ns es → keep < count → count ≤ length list → (r : ℕ) → r ≡ getD list keep 0 → r * nodeWords + nodeWords ≤ length ns
   first-reads sit h l r q =
       let g = sit .merges in
       omega (arith, g .mergeable .wired .rest-deps r (mem-from list keep count keep r l (omega arith) h q) .0, nodes-in (sit .diagram) (sit .oldN) (sit .oldE) ns es (g .held))

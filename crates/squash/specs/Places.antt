@@ -7,7 +7,7 @@ use Rattle.diagram.specs.Node.{Node, update}
 use Rattle.diagram.specs.Tables as Def
 use Rattle.diagram.specs.Rule6.{deleteAll, mergedCapacity, twinOf}
 use Rattle.layout.specs.Table.{over}
-use Rattle.layout.specs.Rows.{nodeTable}
+use Rattle.layout.specs.Rows.{nodeWords, nodeTable}
 use Rattle.squash.specs.declared.Twin.{Twin}
 use Rattle.squash.specs.declared.Twin.the-variants.{At, Missing}
 
@@ -18,7 +18,7 @@ Under n rows = (r : ℕ) → List·Memᴰ r rows → r < n
 -- the rows that the list's first count places name lie whole in the node table t
 pub record Placed (list : List ℕ) (count : ℕ) (t : List ℕ) : Type 0 where
   pub places : count ≤ length list
-  pub inside : (r : ℕ) → List·Memᴰ r (take count list) → r * 8 + 8 ≤ length t
+  pub inside : (r : ℕ) → List·Memᴰ r (take count list) → r * nodeWords + nodeWords ≤ length t
 
 -- table t becomes u when row r is changed by f
 pub record RowChanged (f : Node → Node) (t : List ℕ) (r : ℕ) (u : List ℕ) : Type 0 where

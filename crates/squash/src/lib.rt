@@ -4,6 +4,7 @@ ghost use mathlib.Core.List.{[], _∷_};
 ghost use Prim.Native.Nat.{_+_, _-_, _*_, _<_, _≤_, max};
 ghost use lib.ListN.{length, getD, take, drop};
 ghost use Rattle.diagram.specs.Node.{withDeleted, asRelaxed};
+ghost use Rattle.layout.specs.Rows.{nodeWords};
 ghost use Rattle.rows.specs.Values.{nodeOf};
 ghost use Rattle.squash.specs.Places.{Placed, RowChanged, Restricted, CapacityMerged, TwinFound};
 ghost use Rattle.squash.specs.Merging.{Sits, EdgesCopied, AllMerged};
@@ -41,7 +42,7 @@ fn with_deleted(n: Node, deleted: bool) -> Node
 
 // Sets or clears the deleted flag of row r.
 fn set_deleted(nodes: &mut [u64], r: NodeId, deleted: bool)
-    requires { ⌜ r .0 * 8 + 8 ≤ length (now nodes) ⌝ }
+    requires { ⌜ r .0 * nodeWords + nodeWords ≤ length (now nodes) ⌝ }
     ensures { λ _. ⌜ RowChanged (withDeleted deleted) (now (nodes .entry)) (r .0) (now (nodes .exit)) ⌝ }
 {
     let n = rows::read_node(nodes, r);
@@ -185,7 +186,7 @@ fn as_relaxed(n: Node) -> Node
 }
 
 fn set_relaxed(nodes: &mut [u64], r: NodeId)
-    requires { ⌜ r .0 * 8 + 8 ≤ length (now nodes) ⌝ }
+    requires { ⌜ r .0 * nodeWords + nodeWords ≤ length (now nodes) ⌝ }
     ensures { λ _. ⌜ RowChanged asRelaxed (now (nodes .entry)) (r .0) (now (nodes .exit)) ⌝ }
 {
     let n = rows::read_node(nodes, r);
@@ -194,7 +195,7 @@ fn set_relaxed(nodes: &mut [u64], r: NodeId)
 
 // Writes the merged row as row r, the next: of value i64 minimum, without edges yet.
 fn push_merged(nodes: &mut [u64], r: NodeId, capacity: u64, depth: u64)
-    requires { ⌜ r .0 * 8 + 8 ≤ length (now nodes) ⌝ }
+    requires { ⌜ r .0 * nodeWords + nodeWords ≤ length (now nodes) ⌝ }
     ensures { λ _. ⌜ RowMade capacity depth (now (nodes .entry)) (r .0) (now (nodes .exit)) ⌝ }
 {
     let n = branch::new_node(capacity, depth, 0, false);

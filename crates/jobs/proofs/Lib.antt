@@ -1,0 +1,2 @@
+-- Case R, computed.
+pub mod Figures

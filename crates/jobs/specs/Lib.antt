@@ -1,0 +1,5 @@
+-- A job's text, its run, and the text of its answer.
+pub mod Text
+pub mod Run
+pub mod Page
+pub mod Figures

@@ -1,0 +1,63 @@
+-- The run of a job: a start at i64 minimum, then picks of the largest bound, until the list is empty or a call is refused.
+use mathlib.Core.Bool.{true, false}
+use mathlib.Core.List.{List, [], _∷_, map}
+use Prim.Native.Nat.{ℕ, zero, suc, _+_}
+use lib.Dec.{eqb}
+use lib.IntN.{ℤ}
+use lib.Signed.{ltZ}
+use Rattle.words.specs.I64.{i64Min}
+use Rattle.knapsack.specs.Items.{Item}
+use Rattle.calls.specs.Asked.{Problem}
+use Rattle.searches.specs.Places.{Place}
+use Rattle.searches.specs.Search.{Search, openIn}
+use Rattle.searches.specs.Start as Start
+use Rattle.searches.specs.Start.{start}
+use Rattle.searches.specs.Compile.{Lent}
+use Rattle.searches.specs.Pick as Pick
+use Rattle.searches.specs.Pick.{Asked, pick}
+use Rattle.jobs.specs.Text.{Job}
+
+unfoldable pub problemOf : Job → Problem
+problemOf j = record { weights = map (λ (i : Item). i .weight) (j .items); profits = map (λ (i : Item). i .profit) (j .items); page = j .page; width = j .width }
+
+-- the place of the largest bound: at is the place of the first of the list, best that of the largest before it, with that bound; the lowest on a tie
+unfoldable pub largestFrom : ℕ → ℕ → ℤ → List Place → ℕ
+largestFrom at best bound [] = best
+largestFrom at best bound (p ∷ ps) = elim (ltZ bound (p .bound)) [ true ↦ largestFrom (suc at) at (p .bound) ps | false ↦ largestFrom (suc at) best bound ps ]
+
+-- 'picks the largest bound, lowest place on a tie'
+unfoldable pub largest : List Place → ℕ
+largest [] = 0
+largest (p ∷ ps) = largestFrom 1 0 (p .bound) ps
+
+-- how a run ends: by a refusal, or with an empty list
+pub data Ending : Type 0 where
+  refused : ℕ → Ending
+  ended : Search → Ending
+
+unfoldable pub askedFor : Job → Search → List Place → Asked
+askedFor j s list = record { problem = problemOf j; kind = j .kind; place = largest (openIn s list) }
+
+-- a pick that is refused ends the run
+unfoldable pub unlessRefused : Pick.Picked → Ending → Ending
+unlessRefused (Pick.refusedBy n) e = refused n
+unlessRefused Pick.accepted e = e
+
+-- The picks from a search on, `turns` of them at most. Tables and scratch list are lent anew for each; what they hold never enters an answer.
+unfoldable pub picking : ℕ → Job → Lent → Search → List Place → Ending
+picking zero j l s list = ended s
+picking (suc turns) j l s list =
+    let d = pick (askedFor j s list) s (record { list = list; lent = l }) in
+    elim (eqb (s .opened) 0) [ true ↦ ended s | false ↦ unlessRefused (d .answer) (picking turns j l (d .search) (d .held .list)) ]
+
+-- more turns than picks can be accepted: 14 comes before
+abbrev pub allTurns : ℕ
+allTurns = 18446744073709551616
+
+unfoldable pub startedOn : Job → Lent → List Place → Start.Started → Ending
+startedOn j l list (Start.refused n) = refused n
+startedOn j l list (Start.started s) = picking allTurns j l s list
+
+-- 'It starts at i64 minimum'
+unfoldable pub run : Job → Lent → List Place → Ending
+run j l list = let d = start (problemOf j) i64Min list in startedOn j l (d .list) (d .answer)

@@ -1,0 +1,129 @@
+// A request: its numbers as they are read, and what they ask. The first 18 stand in `head`, in this order: the call; how many weights and profits; page, width; cutset kind; bound or best value; 1 if a path is held; open count, picks, place; words of node and edge table; places of list and scratch list; first word of each table, and the step from a word to the next.
+use cutset::Kind;
+use lines::at_most;
+use lines::input;
+use lines::input::Input;
+use lines::input::State;
+use search::Ask;
+use search::Search;
+
+fn kind_of(n: u64) -> Kind {
+    if n == 0 {
+        Kind::LastExactLayer
+    } else {
+        Kind::Frontier
+    }
+}
+
+fn byte_of(n: u64) -> u8 {
+    (n % 256) as u8
+}
+
+// A path's numbers as bytes.
+fn path_of(numbers: &[u64; 64]) -> [u8; 64] {
+    let mut path = [0u8; 64];
+    let mut i = 0;
+    while i < 64 {
+        path[i] = byte_of(numbers[i]);
+        i += 1;
+    }
+    path
+}
+
+pub fn ask_of(head: [u64; 18]) -> Ask {
+    Ask {
+        page: head[3],
+        width: head[4],
+        kind: kind_of(head[5]),
+    }
+}
+
+// The search that a pick is asked of.
+pub fn search_of(head: [u64; 18], path: &[u64; 64]) -> Search {
+    let bytes = path_of(path);
+    Search {
+        best: words::number(head[6]),
+        held: head[7] == 1,
+        path: bytes,
+        opened: head[8] as usize,
+        picks: head[9],
+    }
+}
+
+// Whether there is room for the tables and the lists.
+fn tables_fit(head: &[u64; 18]) -> bool {
+    if 16384 < head[11] {
+        return false;
+    }
+    if 16384 < head[12] {
+        return false;
+    }
+    if 64 < head[13] {
+        return false;
+    }
+    head[14] <= 64
+}
+
+// Whether there is room for what is read and lent, and call and cutset kind have their numbers.
+fn fits(head: &[u64; 18]) -> bool {
+    if 1 < head[0] {
+        return false;
+    }
+    if 192 < head[1] {
+        return false;
+    }
+    if 192 < head[2] {
+        return false;
+    }
+    if 1 < head[5] {
+        return false;
+    }
+    tables_fit(head)
+}
+
+// The words of a list of so many records.
+fn read_list(buf: &mut [u8; 65536], i: Input, list: &mut [u64], places: u64) -> Input {
+    let n = at_most(places, 64);
+    input::list(buf, i, list, n as u64 * 68)
+}
+
+// What comes behind the weights and profits. An end before its last number is no place for it.
+fn read_lists(
+    buf: &mut [u8; 65536],
+    i: Input,
+    head: &[u64; 18],
+    path: &mut [u64],
+    list: &mut [u64],
+    scratch: &mut [u64],
+) -> Input {
+    let behind = input::list(buf, i, path, 64);
+    let second = read_list(buf, behind, list, head[13]);
+    let last = read_list(buf, second, scratch, head[14]);
+    if !input::is_reading(last) {
+        return input::stopped(State::Broken);
+    }
+    last
+}
+
+// The numbers of a request. At the input's end there is none; what ends before its last number is none either.
+pub fn read(
+    buf: &mut [u8; 65536],
+    i: Input,
+    head: &mut [u64; 18],
+    weights: &mut [u64],
+    profits: &mut [u64],
+    path: &mut [u64],
+    list: &mut [u64],
+    scratch: &mut [u64],
+) -> Input {
+    let begun = input::list(buf, i, head, 18);
+    if !input::is_reading(begun) {
+        return begun;
+    }
+    if !fits(head) {
+        return input::stopped(State::Broken);
+    }
+    let behind = input::list(buf, begun, weights, head[1]);
+    let second = input::list(buf, behind, profits, head[2]);
+    read_lists(buf, second, head, path, list, scratch)
+}
