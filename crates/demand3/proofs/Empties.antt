@@ -41,6 +41,9 @@ went-u64 q s h l r (outgrown c p e o) = l
 went-u64 q s h l r (dropped p low) = omega (arith, p .countable)
 went-u64 q s h l r (grown c p e) = let k = p .countable in omega (arith, bettered-picks (bettered (c .bestExact) (c .exactPath) s))
 
+pub pick-u64 : (q : Asked) (s : Search) (h : Held) → s .picks ≤ mostPicks → pick q s h .search .picks ≤ mostPicks
+pick-u64 q s h l = went-u64 q s h l (pick q s h) (went q s h)
+
 pub begun-picks : (bound : ℤ) → begun bound .picks ≡ 0
 unfolding begun
 begun-picks bound = refl

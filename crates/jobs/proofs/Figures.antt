@@ -3,11 +3,11 @@ use mathlib.Core.Path.{refl}
 use Rattle.searches.proofs.Computing.{computing}
 use Rattle.jobs.specs.Figures.{CaseR}
 use Rattle.jobs.specs.Text.{line, line3, cutName, itemsText, textOf}
-use Rattle.jobs.specs.Run.{problemOf, largestFrom, largest, askedFor, picking, unlessRefused, startedOn, run}
+use Rattle.jobs.specs.Run.{problemOf, largestFrom, largest, askedFor, picking, unlessRefused, startedOn, runOf, run}
 use Rattle.jobs.specs.Page.{taken, itemLines, natural, pageOf, refusalOf, answerOf}
 use Rattle.numbers.specs.Decimal.{digitsIn, decimal}
 use Rattle.knapsack.specs.Items.{takes}
 
 pub case-r-right : CaseR
-unfolding computing line line3 cutName itemsText textOf problemOf largestFrom largest askedFor picking unlessRefused startedOn run taken itemLines natural pageOf refusalOf answerOf digitsIn decimal takes
+unfolding computing line line3 cutName itemsText textOf problemOf largestFrom largest askedFor picking unlessRefused startedOn runOf run taken itemLines natural pageOf refusalOf answerOf digitsIn decimal takes
 case-r-right = (refl, refl, (refl, refl))

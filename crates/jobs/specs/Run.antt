@@ -7,6 +7,7 @@ use lib.IntN.{ℤ}
 use lib.Signed.{ltZ}
 use Rattle.words.specs.I64.{i64Min}
 use Rattle.knapsack.specs.Items.{Item}
+use Rattle.diagram.specs.After4.{CutsetKind}
 use Rattle.calls.specs.Asked.{Problem}
 use Rattle.searches.specs.Places.{Place}
 use Rattle.searches.specs.Search.{Search, openIn}
@@ -35,8 +36,9 @@ pub data Ending : Type 0 where
   refused : ℕ → Ending
   ended : Search → Ending
 
-unfoldable pub askedFor : Job → Search → List Place → Asked
-askedFor j s list = record { problem = problemOf j; kind = j .kind; place = largest (openIn s list) }
+-- the pick of the largest bound
+unfoldable pub askedFor : Problem → CutsetKind → Search → List Place → Asked
+askedFor p kind s list = record { problem = p; kind = kind; place = largest (openIn s list) }
 
 -- a pick that is refused ends the run
 unfoldable pub unlessRefused : Pick.Picked → Ending → Ending
@@ -44,20 +46,24 @@ unlessRefused (Pick.refusedBy n) e = refused n
 unlessRefused Pick.accepted e = e
 
 -- The picks from a search on, `turns` of them at most. Tables and scratch list are lent anew for each; what they hold never enters an answer.
-unfoldable pub picking : ℕ → Job → Lent → Search → List Place → Ending
-picking zero j l s list = ended s
-picking (suc turns) j l s list =
-    let d = pick (askedFor j s list) s (record { list = list; lent = l }) in
-    elim (eqb (s .opened) 0) [ true ↦ ended s | false ↦ unlessRefused (d .answer) (picking turns j l (d .search) (d .held .list)) ]
+unfoldable pub picking : ℕ → Problem → CutsetKind → Lent → Search → List Place → Ending
+picking zero p kind l s list = ended s
+picking (suc turns) p kind l s list =
+    let d = pick (askedFor p kind s list) s (record { list = list; lent = l }) in
+    elim (eqb (s .opened) 0) [ true ↦ ended s | false ↦ unlessRefused (d .answer) (picking turns p kind l (d .search) (d .held .list)) ]
 
 -- more turns than picks can be accepted: 14 comes before
 abbrev pub allTurns : ℕ
 allTurns = 18446744073709551616
 
-unfoldable pub startedOn : Job → Lent → List Place → Start.Started → Ending
-startedOn j l list (Start.refused n) = refused n
-startedOn j l list (Start.started s) = picking allTurns j l s list
+unfoldable pub startedOn : Problem → CutsetKind → Lent → List Place → Start.Started → Ending
+startedOn p kind l list (Start.refused n) = refused n
+startedOn p kind l list (Start.started s) = picking allTurns p kind l s list
 
 -- 'It starts at i64 minimum'
+unfoldable pub runOf : Problem → CutsetKind → Lent → List Place → Ending
+runOf p kind l list = let d = start p i64Min list in startedOn p kind l (d .list) (d .answer)
+
+-- a job's run is that of its items' problem
 unfoldable pub run : Job → Lent → List Place → Ending
-run j l list = let d = start (problemOf j) i64Min list in startedOn j l (d .list) (d .answer)
+run j l list = runOf (problemOf j) (j .kind) l list

@@ -4,6 +4,7 @@ pub mod Chosen
 pub mod Drained
 pub mod Entered
 pub mod Filled
+pub mod FirstPlaces
 pub mod Lists
 pub mod Places
 pub mod Removing

@@ -21,7 +21,7 @@ pub struct Record {
 }
 
 // A record all 0.
-fn empty() -> Record
+pub fn empty() -> Record
     ensures { λ r. ⌜ r ≡ noRecord ⌝ }
 {
     Record {

@@ -92,7 +92,7 @@ pub fn begun(bound: i64) -> Search
 }
 
 // The search of a refused start: all 0.
-fn no_search() -> Search
+pub fn no_search() -> Search
     ensures { λ s. ⌜ s ≡ noSearch ⌝ }
 {
     Search {

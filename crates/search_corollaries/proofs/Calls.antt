@@ -31,7 +31,7 @@ use Rattle.demand3.proofs.Always.{always-stands}
 use Rattle.search.specs.declared.Ask.{Ask}
 use Rattle.pick.specs.Picks.{askedIn, heldIn}
 use Rattle.search_corollaries.specs.Calls as Calling
-use Rattle.search_corollaries.specs.Calls.{Calls, CallsAreFew, CallsEndOptimal, CallsStand}
+use Rattle.search_corollaries.specs.Calls.{Calls, CallsAreFew, CallsEndOptimal, CallsStand, PickInPlace}
 
 -- an accepted start's answer holds the definition's search
 started-is : (x : Start.Started) (a : Started) → a ≡ startedFrom x → a .verdict ≡ Accepted → x ≡ started (searchOf (a .search))
@@ -75,3 +75,19 @@ calls-end-optimal b bound most s list i c e = empty-means-optimal b bound most (
 
 pub calls-stand : CallsStand
 calls-stand b bound most s list i c = always-stands b bound most (searchOf s) (places list) i (trace-of c)
+
+-- ---- a pick over a lent search is a pick: its verdict, with the search where it was lent, is what `pick` answers
+
+picked-by : (x : Pick.Picked) (s : Def.Search) (v : Verdict) (t : Search) → v ≡ pickedFrom x s .verdict → searchOf t ≡ s → record { verdict = v; search = t } ≡ pickedFrom x s
+picked-by (refusedBy n) s v t e f = ap₂ (λ (w : Verdict) (u : Def.Search). record { verdict = w; search = searchFrom u }) e f
+picked-by accepted s v t e f = ap₂ (λ (w : Verdict) (u : Def.Search). record { verdict = w; search = searchFrom u }) e f
+
+pub in-place : PickInPlace
+in-place d v t ns es list scratch h =
+    record {
+      answered = picked-by (d .answer) (d .search) v t (h .answered) (h .search-is);
+      nodes-are = h .nodes-are;
+      edges-are = h .edges-are;
+      list-is = h .list-is;
+      scratch-is = h .scratch-is;
+    }

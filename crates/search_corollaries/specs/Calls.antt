@@ -9,11 +9,13 @@ use Rattle.knapsack.specs.Knapsack.{Optimum}
 use Rattle.demand2.specs.Records.{itemsIn}
 use Rattle.demand3.specs.Searches.{problemOf, itemCount, geometric}
 use Rattle.demand3.specs.Statements.{Ended, Stands}
+use Rattle.refusals.specs.declared.Verdict.{Verdict}
 use Rattle.refusals.specs.declared.Verdict.the-variants.{Accepted}
 use Rattle.records.specs.declared.Record.{Record}
 use Rattle.records.specs.Structs.{places}
 use Rattle.searches.specs.Start.{start}
-use Rattle.searches.specs.Pick.{pick}
+use Rattle.searches.specs.Places.{Place}
+use Rattle.searches.specs.Pick.{After, pick}
 use Rattle.searches.specs.Trace.{Blocks, problemAt}
 use Rattle.search.specs.declared.Search.{Search}
 use Rattle.search.specs.declared.Started.{Started}
@@ -21,7 +23,7 @@ use Rattle.search.specs.declared.Picked.{Picked}
 use Rattle.search.specs.Held.{searchOf}
 use Rattle.search.specs.Begins.{Begins}
 use Rattle.search.specs.declared.Ask.{Ask}
-use Rattle.pick.specs.Picks.{askedIn, heldIn, Picks}
+use Rattle.pick.specs.Picks.{askedIn, heldIn, Picks, PicksIn}
 
 -- Calls b bound most s list: after those calls the host has the search s, its open records in the first places of list; no scratch list had more than `most` places.
 -- Between two calls the list's first open-count places stay; its length, its later places, tables and scratch list may be others.
@@ -43,3 +45,7 @@ CallsEndOptimal =
 
 abbrev pub CallsStand : Type 0
 CallsStand = (b : Blocks) (bound : ℤ) (most : ℕ) (s : Search) (list : List Record) → InI64 bound → Calls b bound most s list → Stands b bound (searchOf s) (places list)
+
+-- What a pick over a lent search leaves is what a pick answers, so it goes on as one.
+abbrev pub PickInPlace : Type 0
+PickInPlace = (d : After) (v : Verdict) (t : Search) (ns es : List ℕ) (list scratch : List Place) → PicksIn d v t ns es list scratch → Picks d (record { verdict = v; search = t }) ns es list scratch

@@ -22,7 +22,7 @@ use denote.Struct.Laws as LL
 use Rattle.records.specs.declared.Record.{Record}
 use Rattle.records.proofs.Record as T
 use Rattle.records.proofs.Record.Laws as T′
-use Rattle.search_replay.proofs.FirstPlaces.{Kept, first, lends-first, first-back}
+use Rattle.records.proofs.FirstPlaces.{Kept, first, lends-first, first-back}
 
 -- shut: a walk compares the types of locals at every step, and has no need to look into this one
 unfoldable pub list-ty : Ty

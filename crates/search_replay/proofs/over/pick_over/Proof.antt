@@ -60,7 +60,7 @@ use Rattle.pick.proofs.pick.Symbol as g-def
 use Rattle.pick.proofs.pick.Symbol.{name as #pick}
 use Rattle.pick.proofs.pick.Met as g-thm
 use Rattle.search_replay.specs.declared.over.PickedOver.{PickedOver}
-use Rattle.search_replay.proofs.FirstPlaces.{Kept, first}
+use Rattle.records.proofs.FirstPlaces.{Kept, first}
 use Rattle.search_replay.proofs.InStruct.{in-struct}
 use Rattle.search_replay.proofs.Lists.{Rows, list-ty, list-typed, list-makes, lends-list, list-back}
 use Rattle.search_replay.proofs.over.PickedOver as O

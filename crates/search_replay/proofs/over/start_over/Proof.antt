@@ -58,7 +58,7 @@ use Rattle.search.proofs.start.Symbol as g-def
 use Rattle.search.proofs.start.Symbol.{name as #search·start}
 use Rattle.search.proofs.start.Met as g-thm
 use Rattle.search_replay.specs.declared.over.StartedOver.{StartedOver}
-use Rattle.search_replay.proofs.FirstPlaces.{Kept, first}
+use Rattle.records.proofs.FirstPlaces.{Kept, first}
 use Rattle.search_replay.proofs.InStruct.{in-struct}
 use Rattle.search_replay.proofs.Lists.{Rows, list-ty, list-typed, list-makes, lends-list, list-back}
 use Rattle.search_replay.proofs.over.StartedOver as O

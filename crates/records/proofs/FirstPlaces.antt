@@ -1,7 +1,10 @@
--- A local array of any element type T, lent in its first k places as a `&mut [T]`, and back.
+-- A local array of any element type T, lent in its first k places as a `&mut [T]` or a `&[T]`, and back.
 --     Kept             what the lender keeps while they are lent under the name γ: its part of the loan, and the places behind them
 --     lends-first      the local's cell, which holds xs ∗ what the array owns  ⊢ ⇛ ∃ γ. own (the `&κ mut [T]` on the first k of xs) ∗ Kept γ xs
 --     first-back       [†κ] ∗ Kept γ xs ∗ finally γ zs  ⊢ ⇛ ∃ v. the cell at v ∗ what the array of zs and the rest of xs owns at v
+--     KeptShared       the same where they are lent to be read
+--     shares-first     the local's cell, which holds xs ∗ what the array owns  ⊢ ⇛ ∃ γ. own (the `&κ [T]` on the first k of xs) ∗ KeptShared xs
+--     shared-back      [†κ] ∗ KeptShared xs  ⊢ ⇛ ∃ v. the cell at v ∗ what the array of xs owns at v
 -- T has one MIR type. Assumes `Given`.
 use mathlib.Core.Path.{_≡_, refl, sym, _∙_, subst}
 use Prim.Native.Nat.{ℕ, _≤_}
@@ -17,6 +20,7 @@ use base.Fml.{Lft, GName, Fml, fsep, fdead, flent}
 use prog.Wp.{Heap}
 use ghost.Atoms.{Atoms, sem}
 use types.Kit.{Given, ‵, _⊛_, some, later, _$_, _∵_, !, qed, by, move, use1, use2, use3, split, pick, rewrite, fsplit, fjoin, feqL, feqI, await, updating, now as at-once, show, done}
+use types.Tokens.{lent-back}
 use types.SemTy.{cells, Arr}
 use types.Share.{arr-parts}
 use denote.RattleType.{RattleType}
@@ -24,8 +28,8 @@ use denote.Memory.{lone, cellAt, partAt, mem, shares, partOf}
 use denote.Array.{Array}
 use denote.ArrayMemory.{Single, array-apart, array-whole}
 use denote.Ref.{RefT}
-use denote.Slice.{sliceVal, MutSlice, Room, finally}
-use denote.Lend.{Held, lends-slice, slice-back}
+use denote.Slice.{sliceVal, MutSlice, ShrSlice, Room, finally}
+use denote.Lend.{Held, lends-slice, slice-back, lends-shr-slice}
 use denote.Index.{row, whole-out, whole-in}
 use borrow.Table.Elements.{at, cut-app, join-app, same-len}
 use borrow.Rule.Array.Share.{room-take}
@@ -40,6 +44,9 @@ module _ (R : RattleType) (κ : Lft) (n k b o : ℕ) where
 
   abbrev pub Kept : GName → List X → Fml
   Kept γ xs = fsep (flent κ (Held R k b o γ)) (cells (mem R) (drop-list k xs) b (at o (mem R .size) k))
+
+  abbrev pub KeptShared : List X → Fml
+  KeptShared xs = fsep (flent κ (arr-parts (shares R) k .part fullShare (take k xs) b o)) (cells (mem R) (drop-list k xs) b (at o (mem R .size) k))
 
   abbrev pub first : GName → List X → RefT (List X)
   first γ xs = record { ptr = (b, o); name = γ; now = take k xs }
@@ -112,3 +119,31 @@ module _ (R : RattleType) (κ : Lft) (n k b o : ℕ) where
         qed W (‵ (fdead κ) ∷ ‵ (Kept γ xs) ∷ ‵ (finally R γ zs) ∷ []) ∵ updating ! $ move ! (1 ∷ []) $ fsplit ! $ move ! (2 ∷ 0 ∷ 3 ∷ []) $
         use3 W (later (‵ (Arr (mem R) k .lies zs b o))) (slice-back 𝓤 H A W R κ γ zs k b o) $ await ! tt $ fsplit ! $ feqL ! (λ e.
         rewrite ! 1 (λ (m : ℕ). ‵ (cells (mem R) (drop-list k xs) b (at o (mem R .size) m))) (sym e) refl $ at-once ! $ by ! (joins xs zs l le e))
+
+    -- ---- the same, to be read
+    abbrev Sharing : Lifetime → List X → ℕ → GName → SProp 𝓤
+    Sharing ℓ xs m γ = sep 𝓤 ⟦ ShrSlice ℓ κ R .own (first γ xs) (sliceVal (b, o) m ∷ []) ⟧ ⟦ fsep (flent κ (arr-parts (shares R) m .part fullShare (take k xs) b o)) (cells (mem R) (drop-list k xs) b (at o (mem R .size) m)) ⟧
+
+    shares-cells : (ℓ : Lifetime) (xs : List X) → length xs ≡ n → Room R n → ent 𝓤 ⟦ cells (mem R) xs b o ⟧ (H .⇛ (ex 𝓤 (Sharing ℓ xs (length (take k xs)))))
+    shares-cells ℓ xs l room =
+        qed W (‵ (cells (mem R) xs b o) ∷ []) ∵ rewrite ! 0 (λ (ys : List X). ‵ (cells (mem R) ys b o)) (sym (take-append-drop k xs)) refl $ updating ! $
+        use1 W (‵ (cells (mem R) (take k xs) b o) ⊛ ‵ (cells (mem R) (drop-list k xs) b (at o (mem R .size) (length (take k xs))))) (cut-app 𝓤 H A (mem R) (take k xs) (drop-list k xs) b o) $ split ! $
+        use1 W (‵ (row R fullShare (take k xs) b o)) (whole-out 𝓤 H A W R (take k xs) b o) $ feqI ! ℕ (length (take k xs)) (length (take k xs)) refl $ fjoin ! $
+        use1 W (later (some (λ (γ : GName). ‵ (ShrSlice ℓ κ R .own (first γ xs) (sliceVal (b, o) (length (take k xs)) ∷ [])) ⊛ ‵ (flent κ (arr-parts (shares R) (length (take k xs)) .part fullShare (take k xs) b o))))) (lends-shr-slice 𝓤 H A W R ℓ κ fullShare (take k xs) b o (room-take R n k xs l room)) $ await ! tt $ pick ! (λ γ. split ! $
+        at-once ! $ show ! (Sharing ℓ xs (length (take k xs))) γ $ move ! (1 ∷ 2 ∷ []) $ fjoin ! $ move ! (1 ∷ 0 ∷ []) $ done !)
+
+    pub shares-first : (ℓ : Lifetime) (xs : List X) (v : Val) → length xs ≡ n → k ≤ n → Room R n
+        → ent 𝓤 (sep 𝓤 (H .at fullShare arrayTy b o v) ⟦ Array R n .own xs (v ∷ []) ⟧) (H .⇛ (ex 𝓤 (λ (γ : GName). sep 𝓤 ⟦ ShrSlice ℓ κ R .own (first γ xs) (sliceVal (b, o) k ∷ []) ⟧ ⟦ KeptShared xs ⟧)))
+    shares-first ℓ xs v l le room =
+        via 𝓤 ⟦ Whole xs ⟧ (into-memory xs v)
+        (qed W (‵ (Whole xs) ∷ []) ∵ use1 W (‵ (arr-parts (shares R) n .part fullShare xs b o)) (array-apart 𝓤 H A W R fullShare single n xs b o) $ fsplit ! $ feqL ! (λ _.
+        use1 W (‵ (cells (mem R) xs b o)) (whole-in 𝓤 H A W R xs b o) $
+        by ! (subst (λ (m : ℕ). ent 𝓤 ⟦ cells (mem R) xs b o ⟧ (H .⇛ (ex 𝓤 (Sharing ℓ xs m)))) (many xs l le) (shares-cells ℓ xs l room))))
+
+    pub shared-back : (xs : List X) → length xs ≡ n → k ≤ n
+        → ent 𝓤 (sep 𝓤 (A .dead κ) ⟦ KeptShared xs ⟧) (H .⇛ (ex 𝓤 (λ (v : Val). sep 𝓤 (H .at fullShare arrayTy b o v) ⟦ Array R n .own xs (v ∷ []) ⟧)))
+    shared-back xs l le =
+        qed W (‵ (fdead κ) ∷ ‵ (KeptShared xs) ∷ []) ∵ updating ! $ move ! (1 ∷ []) $ fsplit ! $ move ! (2 ∷ 0 ∷ []) $ lent-back ! tt $ fsplit ! $ feqL ! (λ e.
+        use1 W (‵ (cells (mem R) (take k xs) b o)) (whole-in 𝓤 H A W R (take k xs) b o) $
+        rewrite ! 1 (λ (m : ℕ). ‵ (cells (mem R) (drop-list k xs) b (at o (mem R .size) m))) (sym e) refl $ at-once ! $
+        by ! (subst (λ (ys : List X). ent 𝓤 (sep 𝓤 ⟦ cells (mem R) (take k xs) b o ⟧ ⟦ cells (mem R) (drop-list k xs) b (at o (mem R .size) (length (take k xs))) ⟧) (ex 𝓤 (InCell ys))) (take-append-drop k xs) (joins xs (take k xs) l le e)))

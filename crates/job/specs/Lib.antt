@@ -1,0 +1,2 @@
+-- What the run of a job's text promises.
+pub mod Answered

@@ -1,0 +1,2 @@
+-- What a job's run comes to.
+pub mod Statements

@@ -1,0 +1,304 @@
+-- A run turn by turn, on the definitions alone: what its picks still come to stays what the whole run comes to.
+--     Going        what is known before each turn
+--     begins       it holds after the start
+--     turned       it holds after a turn, with a turn less to go
+--     asks         what a turn asks of the list's length
+--     is-over      where no turn follows, the answer is the run's
+--     picks-largest, accepted-goes     what `turn` and `goes_on` promise, from what they call and test
+use mathlib.Core.Path.{_≡_, refl, sym, ap, ap₂, subst, _∙_}
+use mathlib.Core.Logic.{_≢_}
+use mathlib.Core.Bool.{Bool, true, false}
+use mathlib.Core.List.{List, _++_}
+use mathlib.Core.Option.{Option, none, some}
+use Prim.Native.Nat.{ℕ, zero, suc, _+_, _<_, _≤_}
+use native.Mathlib.Omega.{arith}
+use lib.Dec.{leb, ltb, eqb}
+use lib.IntN.{ℤ}
+use lib.ListN.{length, take, drop, length-append, take-append-drop}
+use lib.Signed.{ltZ}
+use borrow.Author.Tests.{ltb-true, ltb-false, eq-eqb, ne-eqb}
+use Rattle.words.specs.I64.{i64Min}
+use Rattle.diagram.specs.After4.{CutsetKind}
+use Rattle.calls.specs.Asked.{Problem, Given}
+use Rattle.calls.specs.Compile as Call
+use Rattle.calls.specs.Compile.{refused, compiled}
+use Rattle.refusals.specs.declared.Verdict.{Verdict}
+use Rattle.refusals.specs.declared.Verdict.the-variants.{Accepted, Refused}
+use Rattle.records.specs.declared.Record.{Record}
+use Rattle.records.specs.Structs.{places}
+use Rattle.records.proofs.Places.{places-length}
+use Rattle.compile_records.specs.Queried.{lentOf}
+use Rattle.searches.specs.Places.{Place, overPlaces}
+use Rattle.searches.specs.Compile.{Lent, Effect, roomsOf, compileEffect}
+use Rattle.searches.specs.Search as Def
+use Rattle.searches.specs.Search.{mostPicks, openIn, without}
+use Rattle.searches.specs.Start as Start
+use Rattle.searches.specs.Start.{start, begun}
+use Rattle.searches.specs.Pick as Pick
+use Rattle.searches.specs.Pick.{Asked, Held, After, refusedBy, accepted, pickRefusal, pickedFrom, requestFor, refusing, accepting, better, counted, ifRoom, appended, lentAfter, afterCompile, ifAbove, unless, pick}
+use Rattle.search.specs.declared.Search.{Search}
+use Rattle.search.specs.declared.Started.{Started}
+use Rattle.search.specs.declared.Picked.{Picked}
+use Rattle.search.specs.Held.{searchOf}
+use Rattle.search.specs.Answered as Code
+use Rattle.search.specs.Answered.{startedFrom}
+use Rattle.search.specs.Begins.{Begins}
+use Rattle.search.specs.Refused.{pickFirst}
+use Rattle.search.proofs.Firsts.{refused-first, allowed}
+use Rattle.search.specs.declared.Ask.{Ask}
+use Rattle.search.specs.Asked.{problemOf}
+use Rattle.cutset.specs.Whole.{kindOf}
+use Rattle.pick.specs.Picks.{askedIn, heldIn, Picks}
+use Rattle.search_corollaries.proofs.Twice.{picks-alike}
+use Rattle.jobs.specs.Run as Run
+use Rattle.jobs.specs.Run.{Ending, ended, largest, askedFor, unlessRefused, picking, allTurns, startedOn, runOf}
+use Rattle.job_run.specs.Runs.{pickedOf, goingBy, isGoing, endingBy, endingOf}
+
+-- ---- an accepted pick: the list has its open records, and one pick more is counted
+
+-- what an accepted pick leaves, from the search before it
+pub record Counts (s : Def.Search) (d : After) : Type 0 where
+  pub room : d .search .opened ≤ length (d .held .list)
+  pub more : d .search .picks ≡ suc (s .picks)
+
+abbrev IfAccepted : Def.Search → After → Type 0
+IfAccepted s d = d .answer ≡ accepted → Counts s d
+
+no-refusal : (n : ℕ) {X : Type 0} → refusedBy n ≡ accepted → X
+no-refusal n e = let z : _≡_ {A = ℕ} 0 1 = cc in absurd (omega arith)
+
+refusing-counts : (n : ℕ) (s s₀ : Def.Search) (list : List Place) (l : Lent) → IfAccepted s₀ (refusing n s list l)
+unfolding refusing
+refusing-counts n s s₀ list l e = no-refusal n e
+
+accepting-counts : (s s₁ : Def.Search) (left list : List Place) (l : Lent) → s₁ .picks ≡ s .picks → IfAccepted s (accepting s₁ left list l)
+unfolding accepting counted overPlaces
+accepting-counts s s₁ left list l e a =
+    record { room = omega (arith, length-append left (drop (length left) list)); more = ap suc e }
+
+abbrev chosen-search : Bool → Def.Search → Def.Search → Def.Search
+chosen-search b s₁ s = elim b [ true ↦ s₁ | false ↦ s ]
+
+chosen-picks : (b : Bool) (s₁ s : Def.Search) → s₁ .picks ≡ s .picks → chosen-search b s₁ s .picks ≡ s .picks
+chosen-picks true s₁ s e = e
+chosen-picks false s₁ s e = refl
+
+better-picks : (v : Option ℤ) (path : List ℕ) (s : Def.Search) → better v path s .picks ≡ s .picks
+unfolding better
+better-picks none path s = refl
+better-picks (some v) path s = chosen-picks (ltZ (s .best) v) (record { best = v; held = true; path = path; opened = s .opened; picks = s .picks }) s refl
+
+room-counts : (b : Bool) (s s₁ : Def.Search) (left list : List Place) (l : Lent) → s₁ .picks ≡ s .picks → IfAccepted s (ifRoom b s s₁ left list l)
+unfolding ifRoom
+room-counts true s s₁ left list l e = accepting-counts s s₁ left list l e
+room-counts false s s₁ left list l e = refusing-counts 13 s s list l
+
+compiled-counts : (a : Call.Answer) (w : Effect) (s : Def.Search) (rest : List Place) (h : Held) → IfAccepted s (afterCompile a w s rest h)
+unfolding afterCompile
+compiled-counts (refused n) w s rest h = refusing-counts n s s (h .list) (lentAfter w (h .lent))
+compiled-counts (compiled c) w s rest h =
+    let s₁ = better (c .bestExact) (c .exactPath) s in
+    let left = rest ++ appended (c .exact) (s₁ .best) (w .records) in
+    room-counts (leb (length left) (length (h .list))) s s₁ left (h .list) (lentAfter w (h .lent)) (better-picks (c .bestExact) (c .exactPath) s)
+
+above-counts : (b : Bool) (q : Asked) (s : Def.Search) (g : Given) (rest : List Place) (h : Held) → IfAccepted s (ifAbove b q s g rest h)
+unfolding ifAbove
+above-counts false q s g rest h = accepting-counts s s rest (h .list) (h .lent) refl
+above-counts true q s g rest h =
+    let w = compileEffect (requestFor q s g) (roomsOf (h .lent)) in
+    compiled-counts (w .answer) w s rest h
+
+unless-counts : (x : Option ℕ) (q : Asked) (s : Def.Search) (h : Held) → IfAccepted s (unless x q s h)
+unfolding unless
+unless-counts (some n) q s h = refusing-counts n s s (h .list) (h .lent)
+unless-counts none q s h =
+    let g = pickedFrom (h .list) (q .place) in
+    above-counts (ltZ (s .best) (g .bound)) q s g (without (q .place) (openIn s (h .list))) h
+
+pick-counts : (q : Asked) (s : Def.Search) (h : Held) → IfAccepted s (pick q s h)
+unfolding pick
+pick-counts q s h = unless-counts (pickRefusal q s (h .list)) q s h
+
+-- the pick that would be one too many is refused: 14
+refused-by : (x : Option ℕ) (n : ℕ) (q : Asked) (s : Def.Search) (h : Held) → x ≡ some n → unless x q s h .answer ≡ refusedBy n
+unfolding unless refusing
+refused-by none n q s h e = let z : _≡_ {A = ℕ} 0 1 = cc in absurd (omega arith)
+refused-by (some m) n q s h e = cc
+
+refused-so : (q : Asked) (s : Def.Search) (h : Held) (n : ℕ) → pickRefusal q s (h .list) ≡ some n → pick q s h .answer ≡ refusedBy n
+unfolding pick
+refused-so q s h n e = refused-by (pickRefusal q s (h .list)) n q s h e
+
+pick-countable : (q : Asked) (s : Def.Search) (h : Held) → pick q s h .answer ≡ accepted → s .picks ≢ mostPicks
+pick-countable q s h a = go (pickFirst (q .problem) s (q .place) (length (h .list))) refl
+  where
+    go : (x : Option ℕ) → pickFirst (q .problem) s (q .place) (length (h .list)) ≡ x → s .picks ≢ mostPicks
+    go none e = allowed (q .problem) s (q .place) (length (h .list)) e .countable
+    go (some n) e = no-refusal n (sym (refused-so q s h n (refused-first q s (h .list) n e)) ∙ a)
+
+-- ---- two picks from one list, whatever tables and scratch list hold: the whole list is the same after them
+
+same-list : (n : ℕ) (xs ys : List Place) → take n xs ≡ take n ys → drop n xs ≡ drop n ys → xs ≡ ys
+same-list n xs ys a b = sym (take-append-drop n xs) ∙ ap₂ (λ (u v : List Place). u ++ v) a b ∙ take-append-drop n ys
+
+pub record Same (d e : After) : Type 0 where
+  pub answers : d .answer ≡ e .answer
+  pub searches : d .search ≡ e .search
+  pub lists : d .held .list ≡ e .held .list
+
+same-picks : (q : Asked) (s : Def.Search) (list : List Place) (l m : Lent) → roomsOf l ≡ roomsOf m → Same (pick q s (record { list = list; lent = l })) (pick q s (record { list = list; lent = m }))
+unfolding openIn
+same-picks q s list l m e =
+    let h : Held = record { list = list; lent = l } in
+    let k : Held = record { list = list; lent = m } in
+    let z = picks-alike q s h k (record { opened = refl; long = refl; rooms = e }) in
+    let d = pick q s h in
+    let f = pick q s k in
+    let n : d .search .opened ≡ f .search .opened = ap (λ (u : Def.Search). u .opened) (z .searches) in
+    record {
+      answers = z .answers;
+      searches = z .searches;
+      lists = same-list (d .search .opened) (d .held .list) (f .held .list) (z .opened ∙ ap (λ (u : ℕ). take u (f .held .list)) (sym n)) (z .beyond .0 ∙ sym (ap (λ (u : ℕ). drop u (f .held .list)) n ∙ z .beyond .1 ∙ ap (λ (u : ℕ). drop u list) (sym n)));
+    }
+
+pub same-rooms : (ns ns′ es es′ : List ℕ) (xs xs′ : List Record) → length ns′ ≡ length ns → length es′ ≡ length es → length xs′ ≡ length xs → roomsOf (lentOf ns es (places xs)) ≡ roomsOf (lentOf ns′ es′ (places xs′))
+unfolding roomsOf
+same-rooms ns ns′ es es′ xs xs′ a b c = rw (a, b, places-length xs, places-length xs′, c) refl
+
+-- ---- the run
+
+module _ (p : Problem) (kind : CutsetKind) (l : Lent) (e : Ending) where
+  -- the picks that are left come to e: they start from this search and list; each accepted one takes one of the turns that are left
+  pub record GoesOn (turns : ℕ) (s : Def.Search) (list : List Place) : Type 0 where
+    pub comes-to : e ≡ picking turns p kind l s list
+    pub room : s .opened ≤ length list
+    pub left : turns + s .picks ≡ allTurns
+    pub countable : s .picks ≤ mostPicks
+
+  abbrev pub GoingBy : Verdict → ℕ → Def.Search → List Place → Type 0
+  GoingBy (Refused n) turns s list = e ≡ Run.refused n
+  GoingBy Accepted turns s list = GoesOn turns s list
+
+  -- before each turn: the last call was refused, and so ends the run, or the picks go on
+  abbrev pub Going : ℕ → Picked → List Place → Type 0
+  Going turns c list = GoingBy (c .verdict) turns (searchOf (c .search)) list
+
+  -- ---- after the start
+
+  begun-by : (x : Option ℕ) (list : List Place) → let d = Start.unless x p i64Min list in e ≡ startedOn p kind l (d .list) (d .answer) → Going allTurns (pickedOf (startedFrom (d .answer))) (d .list)
+  unfolding Start.unless startedOn begun overPlaces
+  begun-by (some n) list h = h
+  begun-by none list h = record { comes-to = h; room = omega arith; left = omega arith; countable = omega arith }
+
+  begun-so : (list : List Place) → e ≡ runOf p kind l list → Going allTurns (pickedOf (startedFrom (start p i64Min list .answer))) (start p i64Min list .list)
+  unfolding runOf start
+  begun-so list h = begun-by (Start.startRefusal p (length list)) list h
+
+  pub begins : (list : List Place) → e ≡ runOf p kind l list → (a : Started) (after : List Place) → Begins (start p i64Min list) a after → Going allTurns (pickedOf a) after
+  begins list h a after x =
+      subst (λ (y : Started). Going allTurns (pickedOf y) after) (sym (x .answered))
+      (subst (λ (ps : List Place). Going allTurns (pickedOf (startedFrom (start p i64Min list .answer))) ps) (sym (x .written)) (begun-so list h))
+
+  -- ---- a turn
+
+  picking-next : (turns : ℕ) (s : Def.Search) (list : List Place) → eqb (s .opened) 0 ≡ false
+      → let d = pick (askedFor p kind s list) s (record { list = list; lent = l }) in picking (suc turns) p kind l s list ≡ unlessRefused (d .answer) (picking turns p kind l (d .search) (d .held .list))
+  unfolding picking
+  picking-next turns s list o =
+      let d = pick (askedFor p kind s list) s (record { list = list; lent = l }) in
+      ap (λ (b : Bool). elim b [ true ↦ ended s | false ↦ unlessRefused (d .answer) (picking turns p kind l (d .search) (d .held .list)) ]) o
+
+  module _ (turns : ℕ) (s : Def.Search) (list : List Place) (g : GoesOn (suc turns) s list) (o : eqb (s .opened) 0 ≡ false) (m : Lent) (rooms : roomsOf l ≡ roomsOf m) where
+    abbrev d : After
+    d = pick (askedFor p kind s list) s (record { list = list; lent = m })
+
+    comes-to-it : e ≡ unlessRefused (d .answer) (picking turns p kind l (d .search) (d .held .list))
+    comes-to-it =
+        let z = same-picks (askedFor p kind s list) s list l m rooms in
+        g .comes-to ∙ picking-next turns s list o
+        ∙ rw (z .answers, z .searches, z .lists) refl
+
+    next-by : (a : Pick.Picked) → d .answer ≡ a → Going turns (Code.pickedFrom a (d .search)) (d .held .list)
+    unfolding unlessRefused
+    next-by (refusedBy n) h = comes-to-it ∙ ap (λ (x : Pick.Picked). unlessRefused x (picking turns p kind l (d .search) (d .held .list))) h
+    next-by accepted h =
+        let c = pick-counts (askedFor p kind s list) s (record { list = list; lent = m }) h in
+        record {
+          comes-to = comes-to-it ∙ ap (λ (x : Pick.Picked). unlessRefused x (picking turns p kind l (d .search) (d .held .list))) h;
+          room = c .room;
+          left = omega (arith, c .more, g .left);
+          countable = omega (arith, c .more, g .countable, pick-countable (askedFor p kind s list) s (record { list = list; lent = m }) h);
+        }
+
+    next : Going turns (Code.pickedFrom (d .answer) (d .search)) (d .held .list)
+    next = next-by (d .answer) refl
+
+  -- the answer r of a turn over tables and a scratch list m that have the rooms of l, the list after it, and that a turn less is to go
+  pub record Turned (turns : ℕ) (r : Picked) (after : List Place) : Type 0 where
+    pub rest : ℕ
+    pub less : rest < turns
+    pub going : Going rest r after
+
+  module _ (list : List Place) (m : Lent) (rooms : roomsOf l ≡ roomsOf m) (r : Picked) (ns es : List ℕ) (after scratch : List Place) where
+    turned-on : (turns : ℕ) (s : Def.Search) → GoesOn turns s list → eqb (s .opened) 0 ≡ false
+        → Picks (pick (askedFor p kind s list) s (record { list = list; lent = m })) r ns es after scratch → Turned turns r after
+    turned-on zero s g o x = absurd (omega (arith, g .left, g .countable))
+    turned-on (suc turns) s g o x =
+        record {
+          rest = turns;
+          less = omega arith;
+          going =
+              subst (λ (y : Picked). Going turns y after) (sym (x .answered))
+              (subst (λ (ps : List Place). Going turns (Code.pickedFrom (d turns s list g o m rooms .answer) (d turns s list g o m rooms .search)) ps) (sym (x .list-is)) (next turns s list g o m rooms));
+        }
+
+    turned-by : (v : Verdict) (turns : ℕ) (s : Def.Search) → GoingBy v turns s list → goingBy v (s .opened) ≡ true
+        → Picks (pick (askedFor p kind s list) s (record { list = list; lent = m })) r ns es after scratch → Turned turns r after
+    turned-by (Refused n) turns s g o x = let z : _≡_ {A = ℕ} 0 1 = cc in absurd (omega arith)
+    turned-by Accepted turns s g o x = turned-on turns s g (ne-eqb (s .opened) 0 (λ z. let y = ltb-true 0 (s .opened) o in absurd (omega (arith, z)))) x
+
+    pub turned : (turns : ℕ) (c : Picked) → Going turns c list → isGoing c ≡ true
+        → Picks (pick (askedFor p kind (searchOf (c .search)) list) (searchOf (c .search)) (record { list = list; lent = m })) r ns es after scratch → Turned turns r after
+    turned turns c g o x = turned-by (c .verdict) turns (searchOf (c .search)) g o x
+
+  -- what a turn asks
+  asks-by : (v : Verdict) (turns : ℕ) (s : Def.Search) (list : List Place) → GoingBy v turns s list → goingBy v (s .opened) ≡ true → s .opened ≤ length list
+  asks-by (Refused n) turns s list g o = let z : _≡_ {A = ℕ} 0 1 = cc in absurd (omega arith)
+  asks-by Accepted turns s list g o = g .room
+
+  pub asks : (turns : ℕ) (c : Picked) (list : List Place) → Going turns c list → isGoing c ≡ true → c .search .opened ≤ length list
+  asks turns c list g o = asks-by (c .verdict) turns (searchOf (c .search)) list g o
+
+  -- ---- the end
+
+  nothing-open : (turns : ℕ) (s : Def.Search) (list : List Place) → eqb (s .opened) 0 ≡ true → picking turns p kind l s list ≡ ended s
+  unfolding picking
+  nothing-open zero s list o = refl
+  nothing-open (suc turns) s list o =
+      let d = pick (askedFor p kind s list) s (record { list = list; lent = l }) in
+      ap (λ (b : Bool). elim b [ true ↦ ended s | false ↦ unlessRefused (d .answer) (picking turns p kind l (d .search) (d .held .list)) ]) o
+
+  over-by : (v : Verdict) (turns : ℕ) (c : Picked) (list : List Place) → GoingBy v turns (searchOf (c .search)) list → goingBy v (c .search .opened) ≡ false → endingBy v c ≡ e
+  over-by (Refused n) turns c list g o = sym g
+  over-by Accepted turns c list g o =
+      let z = ltb-false 0 (c .search .opened) o in
+      let none-open : c .search .opened ≡ 0 = omega (arith, z) in
+      sym (g .comes-to ∙ nothing-open turns (searchOf (c .search)) list (eq-eqb (c .search .opened) 0 none-open))
+
+  pub is-over : (turns : ℕ) (c : Picked) (list : List Place) → Going turns c list → isGoing c ≡ false → endingOf c ≡ e
+  is-over turns c list g o = over-by (c .verdict) turns c list g o
+
+-- whether an accepted call's run goes on
+pub accepted-goes : (c : Picked) → c .verdict ≡ Accepted → ltb 0 (c .search .opened) ≡ isGoing c
+accepted-goes c e = sym (ap (λ (v : Verdict). goingBy v (c .search .opened)) e)
+
+-- the pick that a turn makes is the definition's: place k is that of the largest bound of the first n, which are the open ones
+module _ (weights profits : List ℕ) (ask : Ask) (c : Picked) (s : Search) (n k : ℕ) (list : List Place) (nodes edges : List ℕ) (scratch : List Place) where
+  pub picks-largest : s ≡ c .search → n ≡ s .opened → k ≡ largest (take n list) → (r : Picked) (ns es : List ℕ) (after left : List Place)
+      → Picks (pick (askedIn weights profits ask k) (searchOf s) (heldIn list nodes edges scratch)) r ns es after left
+      → Picks (pick (askedFor (problemOf weights profits (ask .page) (ask .width)) (kindOf (ask .kind)) (searchOf (c .search)) list) (searchOf (c .search)) (heldIn list nodes edges scratch)) r ns es after left
+  unfolding askedFor openIn
+  picks-largest searched counted chosen r ns es after left x =
+      let e : k ≡ largest (take (c .search .opened) list) = chosen ∙ ap (λ (m : ℕ). largest (take m list)) (counted ∙ ap (λ (z : Search). z .opened) searched) in
+      subst (λ (z : Search). Picks (pick (askedIn weights profits ask (largest (take (c .search .opened) list))) (searchOf z) (heldIn list nodes edges scratch)) r ns es after left) searched
+      (subst (λ (m : ℕ). Picks (pick (askedIn weights profits ask m) (searchOf s) (heldIn list nodes edges scratch)) r ns es after left) e x)

@@ -1,0 +1,12 @@
+-- What an answer's bytes say.
+use mathlib.Core.Path.{_≡_}
+use mathlib.Core.List.{List}
+use Prim.Native.Nat.{ℕ, _-_, _≤_}
+use lib.ListN.{take, drop, replicate}
+use Rattle.page_text.specs.declared.Output.{Output}
+
+-- The counted bytes are the text, `most` of them at most, and those behind them are 0.
+pub record Says (text : List ℕ) (most : ℕ) (o : Output) : Type 0 where
+  pub text-is : take (o .count) (o .bytes) ≡ text
+  pub rest-zero : drop (o .count) (o .bytes) ≡ replicate (671 - o .count) 0
+  pub short : o .count ≤ most
