@@ -1,5 +1,5 @@
 #!/usr/bin/env python3
-"""cases.py CRATES: makes the job files that the gate runs the job program on, CRATES/page_cases/data, args and stdout, and CRATES/page's file of case R.
+"""cases.py CRATES: makes the job files that the gate runs the job programs on, CRATES/page_cases/data, args and stdout, CRATES/page's file of case R and CRATES/large_page's of a larger page.
 
 The answers are the model's; no proved program is run. The files are the same on every run, and none is written if an answer is missing
 that a job can get.
@@ -9,7 +9,7 @@ import shutil
 import sys
 from collections import Counter
 
-from job import DOCUMENT, MOST_BYTES, answer
+from job import DOCUMENT, LARGER, MOST_BYTES, answer
 from texts import text_of
 
 T = [(1, 4), (1, 3), (1, 2)]
@@ -29,6 +29,13 @@ def small_ones(count):
 LARGE = [(i * 7 % 50 + 20, i * 7 % 50 + 20 + i * 5 % 7) for i in range(30)]
 WIDE_LEL = list(zip((76, 124, 23, 192, 20, 52, 19, 79, 157, 57, 33, 61), (65, 169, 99, 21, 169, 75, 161, 192, 16, 170, 85, 71)))
 WIDE_FRONTIER = list(zip((140, 95, 122, 149, 156, 121, 142, 50, 121, 141), (34, 155, 161, 17, 4, 67, 60, 184, 139, 122)))
+DRAINS_128 = list(zip((6, 5, 8, 44, 22, 39, 59, 10, 4, 44), (23, 1, 30, 1, 26, 5, 3, 44, 11, 22)))
+DRAINS_129 = list(zip((9, 30, 33, 30, 21, 38, 24, 44, 42, 41, 2), (15, 19, 45, 59, 51, 24, 22, 41, 49, 27, 29)))
+OPENS_384 = list(zip((21, 40, 40, 38, 67, 49, 36, 33, 69, 62, 58, 53, 51, 35), (24, 41, 48, 40, 73, 49, 44, 36, 76, 65, 63, 56, 60, 40)))
+OPENS_385 = list(zip((62, 41, 66, 31, 62, 41, 65, 63, 53, 64, 56, 29, 44, 42, 31), (71, 45, 69, 33, 64, 48, 71, 67, 61, 72, 63, 31, 52, 43, 40)))
+
+
+THIRTY_ITEMS = text_of(500, 256, "lel", LARGE)  # for large_page: document 01's sizes refuse it
 
 
 def accepted():
@@ -93,6 +100,22 @@ def rooms():
     yield "scratch_places_frontier", text_of(963, 171, "frontier", WIDE_FRONTIER)
     yield "open_places", text_of(500, 8, "lel", LARGE)
     yield "open_places_frontier", text_of(500, 8, "frontier", LARGE)
+
+
+def just_enough():
+    """Jobs that need all the room that there is of one kind, and jobs that need one more: name, kind, whether it is one more, text."""
+    # One item of weight 1 more makes a layer one row longer. One that never fits repeats a layer with an edge a row, one of weight 0 with two.
+    ones, never, free = small_ones(41), (42, 7), (0, 5)
+    rows = ones[:9] + [never] + ones[9:38] + [never] * 6
+    yield "node_rows_1024", "nodes", False, text_of(38, 256, "lel", rows)
+    yield "node_rows_1025", "nodes", True, text_of(38, 256, "lel", [never] + rows)
+    rows = ones[:34] + [free] + ones[34:]
+    yield "edge_rows_1792", "edges", False, text_of(41, 256, "frontier", rows)
+    yield "edge_rows_1793", "edges", True, text_of(41, 256, "frontier", [never] + rows)
+    yield "scratch_places_128", "scratch", False, text_of(145, 136, "lel", DRAINS_128)
+    yield "scratch_places_129", "scratch", True, text_of(196, 129, "lel", DRAINS_129)
+    yield "open_places_384", "list", False, text_of(310, 7, "frontier", OPENS_384)
+    yield "open_places_385", "list", True, text_of(403, 11, "lel", OPENS_385)
 
 
 def filled(length):
@@ -183,10 +206,11 @@ def faults():
 def whole_list():
     for group in accepted, limits, rooms, faults:
         yield from group()
+    yield from ((name, text) for name, _, _, text in just_enough())
 
 
 def lacking(answers):
-    """The answers that no file gets, jobs meant to be accepted that aren't, and which of the two lists 13 doesn't come from."""
+    """The answers that no file gets, jobs meant to be accepted that aren't, and jobs whose room isn't what their name says."""
     given = {text.split(b"\n", 1)[0] for text in answers.values()}
     yield from sorted(DUE - {b"best" if line.startswith(b"best\t") else line for line in given})
     yield from (name for name, _ in accepted() if not answers[name].startswith(b"best"))
@@ -194,6 +218,13 @@ def lacking(answers):
     for name, sizes in ("scratch_places", DOCUMENT._replace(list=AMPLE)), ("open_places", DOCUMENT._replace(scratch=AMPLE)):
         if answer(jobs[name], sizes) != answers[name]:
             yield name
+    for name, kind, one_more, text in just_enough():
+        # the same with one place more or less: one of the two is accepted, the other refused
+        other = answer(text, DOCUMENT._replace(**{kind: getattr(DOCUMENT, kind) + (1 if one_more else -1)}))
+        if not (other if one_more else answers[name]).startswith(b"best") or not (answers[name] if one_more else other).startswith(b"refused"):
+            yield name
+    if not answer(THIRTY_ITEMS).startswith(b"refused") or not answer(THIRTY_ITEMS, LARGER).startswith(b"best"):
+        yield "thirty_items"
 
 
 def put_jobs(folder, jobs):
@@ -211,6 +242,12 @@ def put_page(folder):
     (folder / "stdout").write_bytes(answer(CASE_R))
 
 
+def put_large_page(folder):
+    """What the program large_page is run on: a job that page refuses."""
+    put_jobs(folder, {"thirty_items": THIRTY_ITEMS})
+    (folder / "stdout").write_bytes(answer(THIRTY_ITEMS, LARGER))
+
+
 def put_cases(folder, jobs, answers):
     """What the program page_cases is run on: those jobs."""
     put_jobs(folder, jobs)
@@ -224,6 +261,7 @@ def main(crates):
     if missing:
         sys.exit(f"the list lacks {missing}")
     put_page(pathlib.Path(crates) / "page")
+    put_large_page(pathlib.Path(crates) / "large_page")
     put_cases(pathlib.Path(crates) / "page_cases", jobs, answers)
     figures = Counter(text.split(b"\n", 1)[0].decode() if text.startswith(b"refused") else "best" for text in answers.values())
     print(f"{len(jobs)} jobs: " + ", ".join(f"{count} {line.replace(chr(9), ' ')}" for line, count in sorted(figures.items())))

@@ -10,6 +10,7 @@ from search import Ask, Blocks, Place, model, padded, pick, start
 
 Sizes = namedtuple("Sizes", "nodes edges scratch list")
 DOCUMENT = Sizes(1_024, 1_792, 128, 384)  # what the program of document 01 lends
+LARGER = Sizes(29_238, 43_317, 4_096, 16_384)  # what large_page lends
 MOST_BYTES = 65_535
 
 NUMBER = rb"(0|[1-9][0-9]{0,8})"
@@ -36,8 +37,8 @@ def refused(number):
     return b"refused\t%d\n" % number
 
 
-def answer(text, sizes=DOCUMENT):
-    """What the program writes for a text."""
+def answer(text, sizes=DOCUMENT, pick=pick):
+    """What the program writes for a text; a caller may give a pick that counts."""
     job = read(text)
     if job is None:
         return refused(15)

@@ -1,8 +1,8 @@
 #!/usr/bin/env python3
 """check.py [DEMANDS SCOPE]: checks docs/PROMISES.md against the repository. Run it at the repository's top.
 
-Every file that a row cites is there, every name behind it is defined in that file, every must-fail edit, figure and starred
-case that is cited exists, and every must-fail edit is cited somewhere. With the two documents, the demands and document 01,
+Every file that a row cites is there, every name behind it is defined in that file, every edit, figure and starred case that
+is cited exists, and every edit, of the gate or of tools/mutate, is cited somewhere. With the two documents, the demands and document 01,
 it also checks that each quoted sentence stands there, in order, and that nothing of them is left unquoted.
 Ends in 'N rows, M faults'; exit status 1 if there is a fault.
 """
@@ -19,9 +19,15 @@ FIGURES = {
     "Searches": "crates/searches/specs/Figures.antt",
 }
 STARRED = "crates/diagram/specs/Starred.antt"
+EDITS = ["crates/*/must-fail/{}.edit", "tools/mutate/edits/*/{}.edit"]
 NOTHING = "Text that promises nothing"
-DEFINED = r"(?m)^\s*(?:(?:abbrev|unfoldable|pub|record|data|fn|struct|enum)\s+)*{}(?=[\s:(])"
+DEFINED = r'(?m)^\s*(?:(?:abbrev|unfoldable|pub|extern "C"|record|data|fn|struct|enum)\s+)*{}(?=[\s:(])'
 faults = []
+
+
+def edits(name):
+    """The edits of that name, in the gate and beside it."""
+    return sorted(path for place in EDITS for path in glob.glob(place.format(name)))
 
 
 def fault(where, what):
@@ -89,8 +95,8 @@ def check_tests(number, cell, cited):
         if "/" in token:
             if not os.path.exists(token):
                 fault(number, f"no file {token}")
-        elif not glob.glob(f"crates/*/must-fail/{token}.edit"):
-            fault(number, f"no must-fail edit {token}")
+        elif not edits(token):
+            fault(number, f"no edit {token}")
         cited.add(token)
 
 
@@ -134,9 +140,9 @@ def main(documents):
         check_names(number, cells[1])
         check_names(number, cells[2])
         check_tests(number, cells[3], cited)
-    for edit in sorted(glob.glob("crates/*/must-fail/*.edit")):
+    for edit in edits("*"):
         if os.path.basename(edit)[:-5] not in cited:
-            fault(0, f"no row cites the must-fail edit {edit}")
+            fault(0, f"no row cites the edit {edit}")
     if documents:
         demands, scope = documents
         known = sections(read(scope))
@@ -145,11 +151,6 @@ def main(documents):
         check_quotes(table, quotes(text[text.index(NOTHING):]), known)
     for line in faults:
         print(line)
-    contract = [cells[2] for _, _, cells in table]
-    print(f"open in the third column: {sum(c.startswith('open') for c in contract)} whole, "
-          f"{sum('; open' in c for c in contract)} beside a theorem; "
-          f"open in the fourth: {sum(bool(re.match(r'open( |$)', c[3])) for _, _, c in table)} whole, "
-          f"{sum(bool(re.search(r'.[ :]open', c[3])) for _, _, c in table)} in part")
     print(f"{len(table)} rows, {len(faults)} faults")
     return 1 if faults else 0
 

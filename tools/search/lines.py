@@ -1,5 +1,5 @@
 """The lines of crates/search_replay: a call as its request, and the answer that is due by the model. README.md has the format."""
-from search import EDGE_WORDS, NODE_WORDS, edge_words, node_words, pick, place_words, start, word
+from search import EDGE_WORDS, NODE_WORDS, Picked, edge_words, node_words, pick, place_words, start, word
 import model
 
 CUTS = {model.LEL: 0, model.FRONTIER: 1}
@@ -41,13 +41,17 @@ def left(words_of, rows, first, step):
     return [len(words), *words]
 
 
-def answer_line(call):
+def made(call):
+    """What the call answers and leaves."""
     if call.call == "start":
-        number, s, places = start(call.blocks, call.ask.width, call.bound, call.list)
-        scratch, nodes, edges = call.scratch, (), ()
-    else:
-        rows = call.nodes // NODE_WORDS, call.edges // EDGE_WORDS
-        number, s, places, scratch, nodes, edges = pick(call.blocks, call.ask, call.search, call.place, call.list, call.scratch, *rows)
+        number, search, places = start(call.blocks, call.ask.width, call.bound, call.list)
+        return Picked(number, search, places, call.scratch, (), ())
+    rows = call.nodes // NODE_WORDS, call.edges // EDGE_WORDS
+    return pick(call.blocks, call.ask, call.search, call.place, call.list, call.scratch, *rows)
+
+
+def answer_line(call):
+    number, s, places, scratch, nodes, edges = made(call)
     lists = [number for place in places + scratch for number in place_words(place)]
     tables = left(node_words, nodes, call.old.nodes, call.old.step) + left(edge_words, edges, call.old.edges, call.old.step)
     return line([number, word(s.best), int(s.held), s.opened, s.picks, *s.path, *lists, *tables])

@@ -57,7 +57,7 @@ pub struct Branch {
 }
 
 // The first of `count` rows with that capacity.
-pub fn lookup(coming: &[u64], count: usize, capacity: u64) -> Found
+fn lookup(coming: &[u64], count: usize, capacity: u64) -> Found
     requires { ⌜ count * nodeWords ≤ length (now coming) ⌝ }
     ensures { λ r. ⌜ LookedUp (now (coming .entry)) count capacity r ⌝ }
 {
@@ -110,7 +110,7 @@ fn enter(n: Node, e: EdgeId, p: Parent) -> Node
 }
 
 // One more edge, from p into row `row` of the coming layer (counted from its first), or refusal 12.
-pub fn add_edge(
+fn add_edge(
     coming: &mut [u64],
     edges: &mut [u64],
     first: usize,
@@ -170,7 +170,7 @@ pub fn new_node(capacity: u64, depth: u64, value: u64, exact: bool) -> Node
 }
 
 // A new child: its row and the edge to it, or nothing of both.
-pub fn new_child(
+fn new_child(
     coming: &mut [u64],
     edges: &mut [u64],
     first: usize,
@@ -219,7 +219,7 @@ pub fn new_child(
 }
 
 // The child of p by that branch: one more edge where its state is in the coming layer already, else a new row.
-pub fn add_child(
+fn add_child(
     coming: &mut [u64],
     edges: &mut [u64],
     first: usize,

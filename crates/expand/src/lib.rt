@@ -102,7 +102,7 @@ fn with_fast(n: Node, fast: u64) -> Node
 
 // Node n of the newest stored layer: its fast bound is noted before any child is made, and children are made only if value plus
 // bound is strictly above the lower bound.
-pub fn expand_node(
+fn expand_node(
     nodes: &mut [u64],
     edges: &mut [u64],
     weights: &[u64],

@@ -100,7 +100,7 @@ pub fn find_best_node(nodes: &[u64], start: usize, count: usize, exact_only: boo
 
 // `_has_exact_best_path` of clean.rs: up the best edges until an exact row (true) or a relaxed one (false). A parent's row is the
 // smaller one.
-pub fn has_exact_best_path(nodes: &[u64], edges: &[u64], n: NodeId) -> bool
+fn has_exact_best_path(nodes: &[u64], edges: &[u64], n: NodeId) -> bool
     requires { ⌜ Row (now nodes) (now edges) (n .0) ⌝ }
     ensures { λ b. ⌜ WalkedUp (now (nodes .entry)) (now (edges .entry)) (n .0) b ⌝ }
 {
@@ -211,7 +211,7 @@ fn ground_row(nodes: &mut [u64], r: NodeId)
 }
 
 // The rows of the last stored layer.
-pub fn ground_layer(nodes: &mut [u64], from: usize, to: usize)
+fn ground_layer(nodes: &mut [u64], from: usize, to: usize)
     requires { ⌜ to * nodeWords ≤ length (now nodes) ⌝ }
     ensures { λ _. ⌜ LayerGrounded from to (now (nodes .entry)) (now (nodes .exit)) ⌝ }
 {

@@ -1,4 +1,4 @@
--- The answer that `run_job` writes is the answer of the text's job, or `refused` and 15 where no job has the text.
+-- The answer that `run_job` writes is the answer of the text's job, or `refused` and 15 where no job has the text; and it leaves what that job's run leaves.
 use mathlib.Core.Path.{_≡_, refl, sym, ap, subst, _∙_}
 use mathlib.Core.Bool.{Bool, true, false, not}
 use mathlib.Core.List.{List, [], _∷_, map}
@@ -7,7 +7,6 @@ use Prim.Native.Nat.{ℕ, zero, suc, _<_, _≤_}
 use native.Mathlib.Omega.{arith}
 use lib.Dec.{leb}
 use lib.ListN.{length, take, replicate, length-map}
-use lib.Seq.{take-all}
 use borrow.Author.Tests.{leb-true, leb-false, lt-ltb, eq-eqb}
 use Rattle.knapsack.specs.Items.{Item}
 use Rattle.knapsack.proofs.Cases.{by-test}
@@ -19,23 +18,25 @@ use Rattle.calls.specs.Asked.{Problem}
 use Rattle.calls.specs.Refusals.{Check, firstOf, problemChecks}
 use Rattle.cutset.specs.Whole.{kindOf}
 use Rattle.searches.specs.Places.{Place}
-use Rattle.searches.specs.Compile.{Lent}
+use Rattle.searches.specs.Pick.{Held}
 use Rattle.searches.specs.Start.{startRefusal, unless, start}
 use Rattle.search.specs.declared.Picked.{Picked}
 use Rattle.search.specs.Asked.{problemOf}
 use Rattle.compile_records.specs.Queried.{lentOf}
+use Rattle.pick.specs.Picks.{heldIn}
 use Rattle.search.proofs.Firsts.{start-before}
 use Rattle.jobs.specs.Text.{Job, IsText}
 use Rattle.jobs.specs.Run as Def
 use Rattle.jobs.specs.Run.{refused, startedOn, runOf, run}
+use Rattle.jobs.specs.Left.{Left, left, startedLeaves, runLeaves, leftOf, leftBy}
 use Rattle.jobs.specs.Page.{refusalOf, answerOf}
 use Rattle.page_text.specs.declared.Output.{Output}
 use Rattle.page_text.specs.Says.{Says}
 use Rattle.job_text.specs.declared.ReadJob.{ReadJob}
 use Rattle.job_text.specs.Kept.{room, weightsIn, profitsIn}
 use Rattle.job_text.specs.Reads.{kindFrom, readOf, Reads}
-use Rattle.job_run.specs.Runs.{endingOf}
-use Rattle.job.specs.Answered.{endingRead, runs, unreadNumber, endingIf, Answers, emptyPlaces}
+use Rattle.job_run.specs.Runs.{endingOf, leftIn}
+use Rattle.job.specs.Answered.{leftRead, runs, unreadNumber, leftIf, Answers, Leaves, LeavesTables, emptyPlaces}
 use Rattle.job.proofs.Steps.{runs-none}
 
 -- ---- the items that were kept
@@ -60,13 +61,13 @@ kind-back frontier = refl
 
 -- ---- a job of at most 64 items is run, with all of them
 
-module _ (j : Job) (l : Lent) (list : List Place) where
-  as-read : length (j .items) ≤ 64 → endingRead (readOf j) l list ≡ run j l list
+module _ (j : Job) (h : Held) where
+  as-read : length (j .items) ≤ 64 → leftRead (readOf j) h ≡ leftBy j h
   unfolding readOf run Def.problemOf
   as-read le =
-      ap (λ (x : List ℕ). runOf (problemOf x (take (length (j .items)) (profitsIn room (j .items))) (j .page) (j .width)) (kindOf (kindFrom (j .kind))) l list) (weights-back room (j .items) le)
-      ∙ ap (λ (x : List ℕ). runOf (problemOf (map (λ (i : Item). i .weight) (j .items)) x (j .page) (j .width)) (kindOf (kindFrom (j .kind))) l list) (profits-back room (j .items) le)
-      ∙ ap (λ (k : CutsetKind). runOf (problemOf (map (λ (i : Item). i .weight) (j .items)) (map (λ (i : Item). i .profit) (j .items)) (j .page) (j .width)) k l list) (kind-back (j .kind))
+      ap (λ (x : List ℕ). leftOf (problemOf x (take (length (j .items)) (profitsIn room (j .items))) (j .page) (j .width)) (kindOf (kindFrom (j .kind))) h) (weights-back room (j .items) le)
+      ∙ ap (λ (x : List ℕ). leftOf (problemOf (map (λ (i : Item). i .weight) (j .items)) x (j .page) (j .width)) (kindOf (kindFrom (j .kind))) h) (profits-back room (j .items) le)
+      ∙ ap (λ (k : CutsetKind). leftOf (problemOf (map (λ (i : Item). i .weight) (j .items)) (map (λ (i : Item). i .profit) (j .items)) (j .page) (j .width)) k h) (kind-back (j .kind))
 
 -- ---- one of more is refused with 2: its lists are of one length
 
@@ -80,54 +81,87 @@ too-many : (p : Problem) → length (p .weights) ≡ length (p .profits) → 64 
 unfolding problemChecks
 too-many p e lt = second-applies _ _ _ (ap not (eq-eqb (length (p .weights)) (length (p .profits)) e)) (lt-ltb 64 (length (p .weights)) lt)
 
-start-refused : (p : Problem) (kind : CutsetKind) (l : Lent) (list : List Place) (n : ℕ) → some n ≡ startRefusal p (length list) → runOf p kind l list ≡ refused n
-unfolding runOf start unless startedOn
-start-refused p kind l list n e = ap (λ (x : Option ℕ). startedOn p kind l (unless x p i64Min list .list) (unless x p i64Min list .answer)) (sym e)
+start-refused : (p : Problem) (kind : CutsetKind) (h : Held) (n : ℕ) → some n ≡ startRefusal p (length (h .list)) → leftOf p kind h ≡ left (refused n) h
+unfolding runOf runLeaves start unless startedOn startedLeaves
+start-refused p kind h n e =
+    ap (λ (x : Option ℕ). let d = unless x p i64Min (h .list) in left (startedOn p kind (h .lent) (d .list) (d .answer)) (startedLeaves p kind (record { list = d .list; lent = h .lent }) (d .answer))) (sym e)
 
-module _ (j : Job) (l : Lent) (list : List Place) where
-  refused-many : 64 < length (j .items) → refused 2 ≡ run j l list
+module _ (j : Job) (h : Held) where
+  refused-many : 64 < length (j .items) → left (refused 2) h ≡ leftBy j h
   unfolding run Def.problemOf
   refused-many lt =
       let w : length (map (λ (i : Item). i .weight) (j .items)) ≡ length (j .items) = length-map (j .items) (λ (i : Item). i .weight) in
       let f : length (map (λ (i : Item). i .profit) (j .items)) ≡ length (j .items) = length-map (j .items) (λ (i : Item). i .profit) in
       let p = Def.problemOf j in
-      sym (start-refused p (j .kind) l list 2 (start-before p (length list) 2 (too-many p (w ∙ sym f) (omega (arith, w, lt)))))
+      sym (start-refused p (j .kind) h 2 (start-before p (length (h .list)) 2 (too-many p (w ∙ sym f) (omega (arith, w, lt)))))
 
-  -- the ending is that of the job's run
-  as-run : endingIf (runs (readOf j)) (readOf j) l list ≡ run j l list
+  -- what was read is run as the job is
+  as-run : leftIf (runs (readOf j)) (readOf j) h ≡ leftBy j h
   unfolding readOf
-  as-run = by-test (λ b. endingIf b (readOf j) l list ≡ run j l list) (leb (length (j .items)) 64) (λ t. as-read j l list (leb-true (length (j .items)) 64 t)) (λ t. refused-many (leb-false (length (j .items)) 64 t))
+  as-run = by-test (λ b. leftIf b (readOf j) h ≡ leftBy j h) (leb (length (j .items)) 64) (λ t. as-read j h (leb-true (length (j .items)) 64 t)) (λ t. refused-many (leb-false (length (j .items)) 64 t))
 
 -- ---- the whole
 
-module _ (text : List ℕ) (l : Lent) (list : List Place) (r : ReadJob) (p : Picked) (o : Output) (read : Reads text r) (e : endingOf p ≡ endingIf (runs r) r l list) (said : Says (answerOf (r .count) (endingOf p)) 671 o) where
-  says-job : (j : Job) → r ≡ readOf j → Says (answerOf (length (j .items)) (run j l list)) 671 o
-  unfolding readOf
-  says-job j h =
-      subst (λ (t : List ℕ). Says t 671 o)
-      (ap (answerOf (r .count)) e ∙ ap (λ (x : ReadJob). answerOf (x .count) (endingIf (runs x) x l list)) h ∙ ap (answerOf (length (j .items))) (as-run j l list)) said
+-- what the run of a text's job leaves, or of a text that no job has
+module _ (text : List ℕ) (h : Held) (r : ReadJob) (p : Picked) (after : Held) (read : Reads text r) (e : leftIn p after ≡ leftIf (runs r) r h) where
+  pub left-job : (j : Job) → IsText text j → leftIn p after ≡ leftBy j h
+  left-job j is = e ∙ ap (λ (x : ReadJob). leftIf (runs x) x h) (read .job-read j is) ∙ as-run j h
 
-  says-outside : r .ok ≡ false → Says (refusalOf 15) 671 o
-  unfolding answerOf
-  says-outside h =
-      subst (λ (t : List ℕ). Says t 671 o)
-      (ap (answerOf (r .count)) (e ∙ ap (λ (b : Bool). endingIf b r l list) (sym (runs-none r h)) ∙ ap (λ (b : Bool). refused (unreadNumber b)) h)) said
+  left-by : ((j : Job) → IsText text j → ⊥) → (b : Bool) → r .ok ≡ b → leftIn p after ≡ left (refused 15) h
+  left-by none true ok = let f = read .found ok in absurd (none (f .job) (f .has-text))
+  left-by none false unread = e ∙ ap (λ (b : Bool). leftIf b r h) (sym (runs-none r unread)) ∙ ap (λ (b : Bool). left (refused (unreadNumber b)) h) unread
 
-  outside : ((j : Job) → IsText text j → ⊥) → (b : Bool) → r .ok ≡ b → Says (refusalOf 15) 671 o
-  outside none true h = let f = read .found h in absurd (none (f .job) (f .has-text))
-  outside none false h = says-outside h
+  pub left-outside : ((j : Job) → IsText text j → ⊥) → leftIn p after ≡ left (refused 15) h
+  left-outside none = left-by none (r .ok) refl
 
-  pub answers : Answers text l list o
-  answers = record { of-job = λ j is. says-job j (read .job-read j is); outside = λ none. outside none (r .ok) refl }
+  pub leaves : Leaves text h after
+  leaves = record { of-job = λ j is. ap (λ (x : Left). x .held) (left-job j is); outside = λ none. ap (λ (x : Left). x .held) (left-outside none) }
 
--- ---- over lists that are empty: all of a list is lent
+  -- and what is written of it
+  module _ (o : Output) (said : Says (answerOf (r .count) (endingOf p)) 671 o) where
+    count-job : (j : Job) → r ≡ readOf j → r .count ≡ length (j .items)
+    unfolding readOf
+    count-job j is = ap (λ (x : ReadJob). x .count) is
 
-all-empty : (n : ℕ) (xs : List Record) → length xs ≡ n → xs ≡ replicate n noRecord → places (take n xs) ≡ emptyPlaces n
-all-empty n xs l e = ap places (take-all n xs (omega (arith, l)) ∙ e)
+    says-job : (j : Job) → IsText text j → Says (answerOf (length (j .items)) (run j (h .lent) (h .list))) 671 o
+    says-job j is =
+        subst (λ (t : List ℕ). Says t 671 o)
+        (ap (λ (n : ℕ). answerOf n (endingOf p)) (count-job j (read .job-read j is)) ∙ ap (λ (x : Left). answerOf (length (j .items)) (x .ending)) (left-job j is)) said
 
-module _ (text ns es : List ℕ) (o : Output) (n m : ℕ) (list scratch : List Record) where
-  pub empty-lists : length list ≡ n → list ≡ replicate n noRecord → length scratch ≡ m → scratch ≡ replicate m noRecord
-      → Answers text (lentOf ns es (places (take m scratch))) (places (take n list)) o → Answers text (lentOf ns es (emptyPlaces m)) (emptyPlaces n) o
-  empty-lists l e k f h =
-      subst (λ (x : List Place). Answers text (lentOf ns es (emptyPlaces m)) x o) (all-empty n list l e)
-      (subst (λ (x : List Place). Answers text (lentOf ns es x) (places (take n list)) o) (all-empty m scratch k f) h)
+    says-outside : ((j : Job) → IsText text j → ⊥) → Says (refusalOf 15) 671 o
+    unfolding answerOf
+    says-outside none = subst (λ (t : List ℕ). Says t 671 o) (ap (λ (x : Left). answerOf (r .count) (x .ending)) (left-outside none)) said
+
+    pub answers : Answers text (h .lent) (h .list) o
+    answers = record { of-job = says-job; outside = says-outside }
+
+-- ---- over the first places of lists that are empty
+
+first-same : (k n : ℕ) (r : Record) → k ≤ n → take k (replicate n r) ≡ replicate k r
+first-same zero n r le = refl
+first-same (suc k) zero r le = absurd (omega (arith, le))
+first-same (suc k) (suc n) r le = ap (λ (xs : List Record). r ∷ xs) (first-same k n r (omega (arith, le)))
+
+-- k places are lent of a list of n, all empty, and k is the number a
+module _ (n k a : ℕ) (xs : List Record) (le : k ≤ n) (empty : xs ≡ replicate n noRecord) (is : k ≡ a) where
+  first-empty : places (take k xs) ≡ emptyPlaces a
+  unfolding emptyPlaces
+  first-empty = ap (λ (ys : List Record). places (take k ys)) empty ∙ ap places (first-same k n noRecord le) ∙ ap (λ (x : ℕ). places (replicate x noRecord)) is
+
+-- of what a run leaves, the tables
+leaves-tables : (text : List ℕ) (h after : Held) → Leaves text h after → LeavesTables text h (after .lent .nodes) (after .lent .edges)
+leaves-tables text h after x =
+    record {
+      of-job = λ j is. (ap (λ (y : Held). y .lent .nodes) (x .of-job j is), ap (λ (y : Held). y .lent .edges) (x .of-job j is));
+      outside = λ none. (ap (λ (y : Held). y .lent .nodes) (x .outside none), ap (λ (y : Held). y .lent .edges) (x .outside none));
+    }
+
+module _ (text ns es : List ℕ) (o : Output) (after : Held) (n k a m j b : ℕ) (list scratch : List Record) where
+  abbrev Told : List Place → List Place → Type 0
+  Told xs ys = Answers text (lentOf ns es ys) xs o × LeavesTables text (heldIn xs ns es ys) (after .lent .nodes) (after .lent .edges)
+
+  pub empty-lists : k ≤ n → list ≡ replicate n noRecord → k ≡ a → j ≤ m → scratch ≡ replicate m noRecord → j ≡ b
+      → Answers text (lentOf ns es (places (take j scratch))) (places (take k list)) o × Leaves text (heldIn (places (take k list)) ns es (places (take j scratch))) after → Told (emptyPlaces a) (emptyPlaces b)
+  empty-lists le e is le₁ e₁ is₁ x =
+      subst (λ (xs : List Place). Told xs (emptyPlaces b)) (first-empty n k a list le e is)
+      (subst (Told (places (take k list))) (first-empty m j b scratch le₁ e₁ is₁) (x .0, leaves-tables text _ after (x .1)))

@@ -6,20 +6,20 @@ use Prim.Native.Nat.{ℕ, _<_, _≤_}
 use native.Mathlib.Omega.{arith}
 use lib.Dec.{leb}
 use lib.IntN.{ℤ, pos}
-use lib.ListN.{take}
+use lib.ListN.{length, take}
 use borrow.Author.Tests.{leb-true}
 use Rattle.cutset.specs.declared.Kind.{Kind}
 use Rattle.cutset.specs.Whole.{kindOf}
 use Rattle.refusals.specs.declared.Verdict.{Verdict}
 use Rattle.refusals.specs.declared.Verdict.the-variants.{Accepted, Refused}
-use Rattle.searches.specs.Places.{Place}
-use Rattle.searches.specs.Compile.{Lent}
+use Rattle.searches.specs.Pick.{Held}
 use Rattle.search.specs.declared.Ask.{Ask}
 use Rattle.search.specs.declared.Search.{Search}
 use Rattle.search.specs.declared.Picked.{Picked}
 use Rattle.search.specs.Held.{noSearch, searchOf}
 use Rattle.search.specs.Asked.{problemOf}
-use Rattle.jobs.specs.Run.{ended, runOf}
+use Rattle.jobs.specs.Run.{ended}
+use Rattle.jobs.specs.Left.{Left, leftOf}
 use Rattle.jobs.specs.Page.{natural, refusalOf, answerOf}
 use Rattle.job_laws.proofs.Optimum.{run-answers-the-optimum}
 use Rattle.page_text.specs.declared.Output.{Output}
@@ -27,8 +27,8 @@ use Rattle.page_text.specs.Says.{Says}
 use Rattle.page_text.specs.Page.{pageFrom}
 use Rattle.page_text.proofs.Counts.{page-of-search}
 use Rattle.job_text.specs.declared.ReadJob.{ReadJob}
-use Rattle.job_run.specs.Runs.{endingBy, endingOf}
-use Rattle.job.specs.Answered.{endingRead, runs, unreadNumber, unreadOf, endingIf, Writable}
+use Rattle.job_run.specs.Runs.{endingBy, endingOf, leftIn}
+use Rattle.job.specs.Answered.{leftRead, runs, unreadNumber, unreadOf, leftIf, Writable}
 
 -- ---- whether a job is run
 
@@ -54,42 +54,42 @@ number-read r e = ap unreadNumber (sym e)
 pub number-none : (r : ReadJob) → r .ok ≡ false → 15 ≡ unreadNumber (r .ok)
 number-none r e = ap unreadNumber (sym e)
 
--- ---- the ending of a run, or of none
+-- ---- how a run ends and what it leaves, or none
 
-module _ (r : ReadJob) (l : Lent) (list : List Place) (p : Picked) where
+pub none-ran : (r : ReadJob) (h : Held) (p : Picked) → runs r ≡ false → p ≡ unreadOf r → leftIn p h ≡ leftIf (runs r) r h
+none-ran r h p off e = ap (λ (x : Picked). leftIn x h) e ∙ ap (λ (b : Bool). leftIf b r h) (sym off)
+
+module _ (r : ReadJob) (h : Held) (p : Picked) (after : Held) where
   pub ran : (weights profits : List ℕ) (n : ℕ) (a : Ask) → weights ≡ r .weights → profits ≡ r .profits → n ≡ r .count → (a .page ≡ r .page) × ((a .width ≡ r .width) × (a .kind ≡ r .kind))
-      → endingOf p ≡ runOf (problemOf (take n weights) (take n profits) (a .page) (a .width)) (kindOf (a .kind)) l list → endingOf p ≡ endingRead r l list
+      → leftIn p after ≡ leftOf (problemOf (take n weights) (take n profits) (a .page) (a .width)) (kindOf (a .kind)) h → leftIn p after ≡ leftRead r h
   ran weights profits n a w f c q e =
       e
-      ∙ ap (λ (x : List ℕ). runOf (problemOf (take n x) (take n profits) (a .page) (a .width)) (kindOf (a .kind)) l list) w
-      ∙ ap (λ (x : List ℕ). runOf (problemOf (take n (r .weights)) (take n x) (a .page) (a .width)) (kindOf (a .kind)) l list) f
-      ∙ ap (λ (x : ℕ). runOf (problemOf (take x (r .weights)) (take x (r .profits)) (a .page) (a .width)) (kindOf (a .kind)) l list) c
-      ∙ ap (λ (x : ℕ). runOf (problemOf (take (r .count) (r .weights)) (take (r .count) (r .profits)) x (a .width)) (kindOf (a .kind)) l list) (q .0)
-      ∙ ap (λ (x : ℕ). runOf (problemOf (take (r .count) (r .weights)) (take (r .count) (r .profits)) (r .page) x) (kindOf (a .kind)) l list) (q .1 .0)
-      ∙ ap (λ (x : Kind). runOf (problemOf (take (r .count) (r .weights)) (take (r .count) (r .profits)) (r .page) (r .width)) (kindOf x) l list) (q .1 .1)
+      ∙ ap (λ (x : List ℕ). leftOf (problemOf (take n x) (take n profits) (a .page) (a .width)) (kindOf (a .kind)) h) w
+      ∙ ap (λ (x : List ℕ). leftOf (problemOf (take n (r .weights)) (take n x) (a .page) (a .width)) (kindOf (a .kind)) h) f
+      ∙ ap (λ (x : ℕ). leftOf (problemOf (take x (r .weights)) (take x (r .profits)) (a .page) (a .width)) (kindOf (a .kind)) h) c
+      ∙ ap (λ (x : ℕ). leftOf (problemOf (take (r .count) (r .weights)) (take (r .count) (r .profits)) x (a .width)) (kindOf (a .kind)) h) (q .0)
+      ∙ ap (λ (x : ℕ). leftOf (problemOf (take (r .count) (r .weights)) (take (r .count) (r .profits)) (r .page) x) (kindOf (a .kind)) h) (q .1 .0)
+      ∙ ap (λ (x : Kind). leftOf (problemOf (take (r .count) (r .weights)) (take (r .count) (r .profits)) (r .page) (r .width)) (kindOf x) h) (q .1 .1)
 
-  pub one-ran : runs r ≡ true → endingOf p ≡ endingRead r l list → endingOf p ≡ endingIf (runs r) r l list
-  one-ran on e = e ∙ ap (λ (b : Bool). endingIf b r l list) (sym on)
-
-  pub none-ran : runs r ≡ false → p ≡ unreadOf r → endingOf p ≡ endingIf (runs r) r l list
-  none-ran off e = ap endingOf e ∙ ap (λ (b : Bool). endingIf b r l list) (sym off)
+  pub one-ran : runs r ≡ true → leftIn p after ≡ leftRead r h → leftIn p after ≡ leftIf (runs r) r h
+  one-ran on e = e ∙ ap (λ (b : Bool). leftIf b r h) (sym on)
 
   -- ---- what the answer is written from
 
-  module _ (e : endingOf p ≡ endingIf (runs r) r l list) where
-    accepted-ended : p .verdict ≡ Accepted → ended (searchOf (p .search)) ≡ endingIf (runs r) r l list
-    accepted-ended a = ap (λ (v : Verdict). endingBy v p) (sym a) ∙ e
+  module _ (e : leftIn p after ≡ leftIf (runs r) r h) where
+    accepted-ended : p .verdict ≡ Accepted → ended (searchOf (p .search)) ≡ leftIf (runs r) r h .ending
+    accepted-ended a = ap (λ (v : Verdict). endingBy v p) (sym a) ∙ ap (λ (x : Left). x .ending) e
 
     abbrev Told : Bool → Type 0
-    Told b = ended (searchOf (p .search)) ≡ endingIf b r l list → (natural (p .search .best) < 100000000) × (b ≡ true)
+    Told b = ended (searchOf (p .search)) ≡ leftIf b r h .ending → (natural (p .search .best) < 100000000) × (b ≡ true)
 
     small-best : (x : ℕ) (z : ℤ) → z ≡ pos x → x ≤ 64000000 → natural z < 100000000
     unfolding natural
     small-best x z h le = let q : natural z ≡ x = ap natural h in omega (arith, q, le)
 
     told : (b : Bool) → Told b
-    told true h = let y = run-answers-the-optimum _ _ l list (searchOf (p .search)) (sym h) in (small-best (y .optimum) (p .search .best) (y .best) (y .small), refl)
-    told false h = let z : _≡_ {A = ℕ} 0 1 = cc in absurd (omega arith)
+    told true x = let y = run-answers-the-optimum _ _ (h .lent) (h .list) (searchOf (p .search)) (sym x) in (small-best (y .optimum) (p .search .best) (y .best) (y .small), refl)
+    told false x = let z : _≡_ {A = ℕ} 0 1 = cc in absurd (omega arith)
 
     pub writable : Writable r p
     writable = record { small = λ a. told (runs r) (accepted-ended a) .0; few = λ a. few-run r (told (runs r) (accepted-ended a) .1) }
@@ -97,7 +97,7 @@ module _ (r : ReadJob) (l : Lent) (list : List Place) (p : Picked) where
 -- ---- the answer's text
 
 says-within : (text other : List ℕ) (most : ℕ) (o : Output) → text ≡ other → most ≤ 671 → Says text most o → Says other 671 o
-says-within text other most o e le s = record { text-is = s .text-is ∙ e; rest-zero = s .rest-zero; short = (let h = s .short in omega (arith, h, le)) }
+says-within text other most o e le s = record { text-is = s .text-is ∙ e; counted = s .counted ∙ ap (length {A = ℕ}) e; rest-zero = s .rest-zero; short = (let h = s .short in omega (arith, h, le)) }
 
 module _ (n : ℕ) (p : Picked) (o : Output) where
   pub says-refused : (k : ℕ) → p .verdict ≡ Refused k → Says (refusalOf k) 29 o → Says (answerOf n (endingOf p)) 671 o

@@ -1,4 +1,4 @@
--- What `run_job` promises: the bytes of the answer, for every text; and what its steps make.
+-- What `run_job` promises: the bytes of the answer, and what lists and tables hold then, for every text; and what its steps make.
 use mathlib.Core.Path.{_≡_}
 use mathlib.Core.Bool.{Bool, true, false, _&&_}
 use mathlib.Core.List.{List}
@@ -10,19 +10,21 @@ use Rattle.records.specs.Structs.{places, noRecord}
 use Rattle.cutset.specs.Whole.{kindOf}
 use Rattle.searches.specs.Places.{Place}
 use Rattle.searches.specs.Compile.{Lent}
+use Rattle.searches.specs.Pick.{Held}
 use Rattle.search.specs.declared.Picked.{Picked}
 use Rattle.search.specs.Held.{noSearch}
 use Rattle.search.specs.Asked.{problemOf}
 use Rattle.jobs.specs.Text.{Job, IsText}
-use Rattle.jobs.specs.Run.{Ending, refused, runOf, run}
+use Rattle.jobs.specs.Run.{refused, run}
+use Rattle.jobs.specs.Left.{Left, left, leftOf, leftBy}
 use Rattle.jobs.specs.Page.{natural, refusalOf, answerOf}
 use Rattle.page_text.specs.declared.Output.{Output}
 use Rattle.page_text.specs.Says.{Says}
 use Rattle.job_text.specs.declared.ReadJob.{ReadJob}
 
--- the ending of a job that was read, with its items in the first places
-abbrev pub endingRead : ReadJob → Lent → List Place → Ending
-endingRead r l list = runOf (problemOf (take (r .count) (r .weights)) (take (r .count) (r .profits)) (r .page) (r .width)) (kindOf (r .kind)) l list
+-- the run of a job that was read, with its items in the first places
+abbrev pub leftRead : ReadJob → Held → Left
+leftRead r h = leftOf (problemOf (take (r .count) (r .weights)) (take (r .count) (r .profits)) (r .page) (r .width)) (kindOf (r .kind)) h
 
 -- whether a job was read that has room in the 64 places for items
 abbrev pub runs : ReadJob → Bool
@@ -37,9 +39,9 @@ abbrev pub unreadOf : ReadJob → Picked
 unreadOf r = record { verdict = Refused (unreadNumber (r .ok)); search = noSearch }
 
 -- the run of a job that was read, or why there is none
-abbrev pub endingIf : Bool → ReadJob → Lent → List Place → Ending
-endingIf true r l list = endingRead r l list
-endingIf false r l list = refused (unreadNumber (r .ok))
+abbrev pub leftIf : Bool → ReadJob → Held → Left
+leftIf true r h = leftRead r h
+leftIf false r h = left (refused (unreadNumber (r .ok))) h
 
 -- what an answer is asked: an accepted run's best value has eight digits, and its items are few
 pub record Writable (r : ReadJob) (p : Picked) : Type 0 where
@@ -51,6 +53,16 @@ pub record Answers (text : List ℕ) (l : Lent) (list : List Place) (o : Output)
   pub of-job : (j : Job) → IsText text j → Says (answerOf (length (j .items)) (run j l list)) 671 o
   pub outside : ((j : Job) → IsText text j → ⊥) → Says (refusalOf 15) 671 o
 
--- a list of so many records, all 0
-abbrev pub emptyPlaces : ℕ → List Place
+-- What lists and tables hold after the answer: what the job's run leaves, or what they held.
+pub record Leaves (text : List ℕ) (h after : Held) : Type 0 where
+  pub of-job : (j : Job) → IsText text j → after ≡ leftBy j h .held
+  pub outside : ((j : Job) → IsText text j → ⊥) → after ≡ h
+
+-- the same of the tables alone
+pub record LeavesTables (text : List ℕ) (h : Held) (ns es : List ℕ) : Type 0 where
+  pub of-job : (j : Job) → IsText text j → (ns ≡ leftBy j h .held .lent .nodes) × (es ≡ leftBy j h .held .lent .edges)
+  pub outside : ((j : Job) → IsText text j → ⊥) → (ns ≡ h .lent .nodes) × (es ≡ h .lent .edges)
+
+-- a list of so many records, all 0; shut, so that nobody writes a large one out
+unfoldable pub emptyPlaces : ℕ → List Place
 emptyPlaces n = places (replicate n noRecord)

@@ -1,12 +1,13 @@
 // A job's text in, its answer out: the text is read, the search run over lent tables and lists, and the answer written.
 ghost use mathlib.Core.Path.{_≡_};
-ghost use Prim.Native.Nat.{_≤_};
+ghost use Prim.Native.Nat.{_≤_, min};
 ghost use Rattle.records.specs.Structs.{places};
 ghost use Rattle.compile_records.specs.Queried.{lentOf};
 ghost use Rattle.jobs.specs.Page.{answerOf};
 ghost use Rattle.page_text.specs.Says.{Says};
-ghost use Rattle.job_run.specs.Runs.{endingOf};
-ghost use Rattle.job.specs.Answered.{endingRead, runs, unreadOf, endingIf, Writable, Answers, emptyPlaces};
+ghost use Rattle.pick.specs.Picks.{heldIn};
+ghost use Rattle.job_run.specs.Runs.{endingOf, leftIn};
+ghost use Rattle.job.specs.Answered.{leftRead, runs, unreadOf, leftIf, Writable, Answers, Leaves, LeavesTables, emptyPlaces};
 use job_text::ReadJob;
 use page_text::Output;
 use records::Record;
@@ -72,7 +73,7 @@ fn run_items(
     scratch: &mut [Record],
 ) -> Picked
     requires { ⌜ r .count ≤ 64 ⌝ }
-    ensures { λ p. ⌜ endingOf p ≡ endingRead r (lentOf (now (nodes .entry)) (now (edges .entry)) (places (now (scratch .entry)))) (places (now (list .entry))) ⌝ }
+    ensures { λ p. ⌜ leftIn p (heldIn (places (now (list .exit))) (now (nodes .exit)) (now (edges .exit)) (places (now (scratch .exit)))) ≡ leftRead r (heldIn (places (now (list .entry))) (now (nodes .entry)) (now (edges .entry)) (places (now (scratch .entry)))) ⌝ }
 {
     let weights = weights_of(r);
     let profits = profits_of(r);
@@ -90,14 +91,14 @@ fn run_items(
 }
 
 // The run of a job that was read, or why there is none.
-fn run_if(
+pub fn run_if(
     r: ReadJob,
     nodes: &mut [u64],
     edges: &mut [u64],
     list: &mut [Record],
     scratch: &mut [Record],
 ) -> Picked
-    ensures { λ p. ⌜ endingOf p ≡ endingIf (runs r) r (lentOf (now (nodes .entry)) (now (edges .entry)) (places (now (scratch .entry)))) (places (now (list .entry))) ⌝ }
+    ensures { λ p. ⌜ leftIn p (heldIn (places (now (list .exit))) (now (nodes .exit)) (now (edges .exit)) (places (now (scratch .exit)))) ≡ leftIf (runs r) r (heldIn (places (now (list .entry))) (now (nodes .entry)) (now (edges .entry)) (places (now (scratch .entry)))) ⌝ }
 {
     if is_run(r) {
         run_items(r, nodes, edges, list, scratch)
@@ -107,7 +108,7 @@ fn run_if(
 }
 
 // The answer that is written.
-fn answer_of(r: ReadJob, p: Picked) -> Output
+pub fn answer_of(r: ReadJob, p: Picked) -> Output
     requires { ⌜ Writable r p ⌝ }
     ensures { λ o. ⌜ Says (answerOf (r .count) (endingOf p)) 671 o ⌝ }
 {
@@ -122,7 +123,7 @@ fn answer_of(r: ReadJob, p: Picked) -> Output
     }
 }
 
-// Answers a job's text.
+// Answers a job's text. Lists and tables hold what its run left.
 pub fn run_job(
     text: &[u8],
     nodes: &mut [u64],
@@ -130,19 +131,34 @@ pub fn run_job(
     list: &mut [Record],
     scratch: &mut [Record],
 ) -> Output
-    ensures { λ o. ⌜ Answers (now (text .entry)) (lentOf (now (nodes .entry)) (now (edges .entry)) (places (now (scratch .entry)))) (places (now (list .entry))) o ⌝ }
+    ensures { λ o. ⌜ Answers (now (text .entry)) (lentOf (now (nodes .entry)) (now (edges .entry)) (places (now (scratch .entry)))) (places (now (list .entry))) o × Leaves (now (text .entry)) (heldIn (places (now (list .entry))) (now (nodes .entry)) (now (edges .entry)) (places (now (scratch .entry)))) (heldIn (places (now (list .exit))) (now (nodes .exit)) (now (edges .exit)) (places (now (scratch .exit)))) ⌝ }
 {
     let r = job_text::read(text);
     let p = run_if(r, nodes, edges, list, scratch);
     answer_of(r, p)
 }
 
-// The same over lists of its own: 384 open places and 128 scratch places, all empty.
-pub fn answer(text: &[u8], nodes: &mut [u64], edges: &mut [u64]) -> Output
-    ensures { λ o. ⌜ Answers (now (text .entry)) (lentOf (now (nodes .entry)) (now (edges .entry)) (emptyPlaces 128)) (emptyPlaces 384) o ⌝ }
+fn least(a: usize, b: usize) -> usize
+    ensures { λ r. ⌜ r ≡ min a b ⌝ }
+{
+    if a < b { a } else { b }
+}
+
+// The same over lists of its own: so many open and scratch places, all empty, and no more than 16,384 and 4,096. One function for
+// programs of all sizes, since its proof is a walk by hand.
+pub fn answer(
+    text: &[u8],
+    nodes: &mut [u64],
+    edges: &mut [u64],
+    open_places: usize,
+    scratch_places: usize,
+) -> Output
+    ensures { λ o. ⌜ Answers (now (text .entry)) (lentOf (now (nodes .entry)) (now (edges .entry)) (emptyPlaces (min «scratch_places» 4096))) (emptyPlaces (min «open_places» 16384)) o × LeavesTables (now (text .entry)) (heldIn (emptyPlaces (min «open_places» 16384)) (now (nodes .entry)) (now (edges .entry)) (emptyPlaces (min «scratch_places» 4096))) (now (nodes .exit)) (now (edges .exit)) ⌝ }
 {
     let none = records::empty();
-    let mut list = [none; 384];
-    let mut scratch = [none; 128];
-    run_job(text, nodes, edges, &mut list, &mut scratch)
+    let mut list = [none; 16384];
+    let mut scratch = [none; 4096];
+    let n = least(open_places, 16384);
+    let m = least(scratch_places, 4096);
+    run_job(text, nodes, edges, &mut list[..n], &mut scratch[..m])
 }

@@ -1,9 +1,9 @@
--- A run turn by turn, on the definitions alone: what its picks still come to stays what the whole run comes to.
+-- A run turn by turn, on the definitions alone: what its picks still come to, and leave, stays what the whole run comes to and leaves.
 --     Going        what is known before each turn
 --     begins       it holds after the start
 --     turned       it holds after a turn, with a turn less to go
 --     asks         what a turn asks of the list's length
---     is-over      where no turn follows, the answer is the run's
+--     is-over      where no turn follows, the answer is the run's, and so is what lists and tables hold
 --     picks-largest, accepted-goes     what `turn` and `goes_on` promise, from what they call and test
 use mathlib.Core.Path.{_≡_, refl, sym, ap, ap₂, subst, _∙_}
 use mathlib.Core.Logic.{_≢_}
@@ -52,7 +52,8 @@ use Rattle.pick.specs.Picks.{askedIn, heldIn, Picks}
 use Rattle.search_corollaries.proofs.Twice.{picks-alike}
 use Rattle.jobs.specs.Run as Run
 use Rattle.jobs.specs.Run.{Ending, ended, largest, askedFor, unlessRefused, picking, allTurns, startedOn, runOf}
-use Rattle.job_run.specs.Runs.{pickedOf, goingBy, isGoing, endingBy, endingOf}
+use Rattle.jobs.specs.Left.{unlessLast, pickingLeaves, startedLeaves, runLeaves, left}
+use Rattle.job_run.specs.Runs.{pickedOf, goingBy, isGoing, endingBy, leftIn}
 
 -- ---- an accepted pick: the list has its open records, and one pick more is counted
 
@@ -167,37 +168,42 @@ same-rooms ns ns′ es es′ xs xs′ a b c = rw (a, b, places-length xs, places
 
 -- ---- the run
 
-module _ (p : Problem) (kind : CutsetKind) (l : Lent) (e : Ending) where
-  -- the picks that are left come to e: they start from this search and list; each accepted one takes one of the turns that are left
-  pub record GoesOn (turns : ℕ) (s : Def.Search) (list : List Place) : Type 0 where
-    pub comes-to : e ≡ picking turns p kind l s list
-    pub room : s .opened ≤ length list
+-- the four slices after a pick are what it leaves
+held-is : (d : After) (r : Picked) (ns es : List ℕ) (list scratch : List Place) → Picks d r ns es list scratch → d .held ≡ heldIn list ns es scratch
+held-is d r ns es list scratch x = rw (x .list-is, x .nodes-are, x .edges-are, x .scratch-is) refl
+
+module _ (p : Problem) (kind : CutsetKind) (l : Lent) (e : Ending) (k : Held) where
+  -- the picks that are left come to e, and leave k: they start from this search over what is lent; each accepted one takes one of the turns that are left
+  pub record GoesOn (turns : ℕ) (s : Def.Search) (h : Held) : Type 0 where
+    pub comes-to : e ≡ picking turns p kind l s (h .list)
+    pub leaves : k ≡ pickingLeaves turns p kind s h
+    pub room : s .opened ≤ length (h .list)
     pub left : turns + s .picks ≡ allTurns
     pub countable : s .picks ≤ mostPicks
 
-  abbrev pub GoingBy : Verdict → ℕ → Def.Search → List Place → Type 0
-  GoingBy (Refused n) turns s list = e ≡ Run.refused n
-  GoingBy Accepted turns s list = GoesOn turns s list
+  abbrev pub GoingBy : Verdict → ℕ → Def.Search → Held → Type 0
+  GoingBy (Refused n) turns s h = (e ≡ Run.refused n) × (k ≡ h)
+  GoingBy Accepted turns s h = GoesOn turns s h
 
   -- before each turn: the last call was refused, and so ends the run, or the picks go on
-  abbrev pub Going : ℕ → Picked → List Place → Type 0
-  Going turns c list = GoingBy (c .verdict) turns (searchOf (c .search)) list
+  abbrev pub Going : ℕ → Picked → Held → Type 0
+  Going turns c h = GoingBy (c .verdict) turns (searchOf (c .search)) h
 
   -- ---- after the start
 
-  begun-by : (x : Option ℕ) (list : List Place) → let d = Start.unless x p i64Min list in e ≡ startedOn p kind l (d .list) (d .answer) → Going allTurns (pickedOf (startedFrom (d .answer))) (d .list)
-  unfolding Start.unless startedOn begun overPlaces
-  begun-by (some n) list h = h
-  begun-by none list h = record { comes-to = h; room = omega arith; left = omega arith; countable = omega arith }
+  begun-by : (x : Option ℕ) (list : List Place) (m : Lent) → let d = Start.unless x p i64Min list in e ≡ startedOn p kind l (d .list) (d .answer) → k ≡ startedLeaves p kind (record { list = d .list; lent = m }) (d .answer) → Going allTurns (pickedOf (startedFrom (d .answer))) (record { list = d .list; lent = m })
+  unfolding Start.unless startedOn startedLeaves begun overPlaces
+  begun-by (some n) list m h g = (h, g)
+  begun-by none list m h g = record { comes-to = h; leaves = g; room = omega arith; left = omega arith; countable = omega arith }
 
-  begun-so : (list : List Place) → e ≡ runOf p kind l list → Going allTurns (pickedOf (startedFrom (start p i64Min list .answer))) (start p i64Min list .list)
-  unfolding runOf start
-  begun-so list h = begun-by (Start.startRefusal p (length list)) list h
+  begun-so : (h : Held) → e ≡ runOf p kind l (h .list) → k ≡ runLeaves p kind h → Going allTurns (pickedOf (startedFrom (start p i64Min (h .list) .answer))) (record { list = start p i64Min (h .list) .list; lent = h .lent })
+  unfolding runOf runLeaves start
+  begun-so h x y = begun-by (Start.startRefusal p (length (h .list))) (h .list) (h .lent) x y
 
-  pub begins : (list : List Place) → e ≡ runOf p kind l list → (a : Started) (after : List Place) → Begins (start p i64Min list) a after → Going allTurns (pickedOf a) after
-  begins list h a after x =
-      subst (λ (y : Started). Going allTurns (pickedOf y) after) (sym (x .answered))
-      (subst (λ (ps : List Place). Going allTurns (pickedOf (startedFrom (start p i64Min list .answer))) ps) (sym (x .written)) (begun-so list h))
+  pub begins : (h : Held) → e ≡ runOf p kind l (h .list) → k ≡ runLeaves p kind h → (a : Started) (after : List Place) → Begins (start p i64Min (h .list)) a after → Going allTurns (pickedOf a) (record { list = after; lent = h .lent })
+  begins h x y a after z =
+      subst (λ (b : Started). Going allTurns (pickedOf b) (record { list = after; lent = h .lent })) (sym (z .answered))
+      (subst (λ (ps : List Place). Going allTurns (pickedOf (startedFrom (start p i64Min (h .list) .answer))) (record { list = ps; lent = h .lent })) (sym (z .written)) (begun-so h x y))
 
   -- ---- a turn
 
@@ -208,85 +214,102 @@ module _ (p : Problem) (kind : CutsetKind) (l : Lent) (e : Ending) where
       let d = pick (askedFor p kind s list) s (record { list = list; lent = l }) in
       ap (λ (b : Bool). elim b [ true ↦ ended s | false ↦ unlessRefused (d .answer) (picking turns p kind l (d .search) (d .held .list)) ]) o
 
-  module _ (turns : ℕ) (s : Def.Search) (list : List Place) (g : GoesOn (suc turns) s list) (o : eqb (s .opened) 0 ≡ false) (m : Lent) (rooms : roomsOf l ≡ roomsOf m) where
+  leaves-next : (turns : ℕ) (s : Def.Search) (h : Held) → eqb (s .opened) 0 ≡ false
+      → let d = pick (askedFor p kind s (h .list)) s h in pickingLeaves (suc turns) p kind s h ≡ unlessLast (d .answer) (d .held) (pickingLeaves turns p kind (d .search) (d .held))
+  unfolding pickingLeaves
+  leaves-next turns s h o =
+      let d = pick (askedFor p kind s (h .list)) s h in
+      ap (λ (b : Bool). elim b [ true ↦ h | false ↦ unlessLast (d .answer) (d .held) (pickingLeaves turns p kind (d .search) (d .held)) ]) o
+
+  module _ (turns : ℕ) (s : Def.Search) (h : Held) (g : GoesOn (suc turns) s h) (o : eqb (s .opened) 0 ≡ false) (rooms : roomsOf l ≡ roomsOf (h .lent)) where
     abbrev d : After
-    d = pick (askedFor p kind s list) s (record { list = list; lent = m })
+    d = pick (askedFor p kind s (h .list)) s h
 
     comes-to-it : e ≡ unlessRefused (d .answer) (picking turns p kind l (d .search) (d .held .list))
     comes-to-it =
-        let z = same-picks (askedFor p kind s list) s list l m rooms in
-        g .comes-to ∙ picking-next turns s list o
+        let z = same-picks (askedFor p kind s (h .list)) s (h .list) l (h .lent) rooms in
+        g .comes-to ∙ picking-next turns s (h .list) o
         ∙ rw (z .answers, z .searches, z .lists) refl
 
-    next-by : (a : Pick.Picked) → d .answer ≡ a → Going turns (Code.pickedFrom a (d .search)) (d .held .list)
-    unfolding unlessRefused
-    next-by (refusedBy n) h = comes-to-it ∙ ap (λ (x : Pick.Picked). unlessRefused x (picking turns p kind l (d .search) (d .held .list))) h
-    next-by accepted h =
-        let c = pick-counts (askedFor p kind s list) s (record { list = list; lent = m }) h in
+    leaves-it : k ≡ unlessLast (d .answer) (d .held) (pickingLeaves turns p kind (d .search) (d .held))
+    leaves-it = g .leaves ∙ leaves-next turns s h o
+
+    next-by : (a : Pick.Picked) → d .answer ≡ a → Going turns (Code.pickedFrom a (d .search)) (d .held)
+    unfolding unlessRefused unlessLast
+    next-by (refusedBy n) a =
+        (comes-to-it ∙ ap (λ (x : Pick.Picked). unlessRefused x (picking turns p kind l (d .search) (d .held .list))) a, leaves-it ∙ ap (λ (x : Pick.Picked). unlessLast x (d .held) (pickingLeaves turns p kind (d .search) (d .held))) a)
+    next-by accepted a =
+        let c = pick-counts (askedFor p kind s (h .list)) s h a in
         record {
-          comes-to = comes-to-it ∙ ap (λ (x : Pick.Picked). unlessRefused x (picking turns p kind l (d .search) (d .held .list))) h;
+          comes-to = comes-to-it ∙ ap (λ (x : Pick.Picked). unlessRefused x (picking turns p kind l (d .search) (d .held .list))) a;
+          leaves = leaves-it ∙ ap (λ (x : Pick.Picked). unlessLast x (d .held) (pickingLeaves turns p kind (d .search) (d .held))) a;
           room = c .room;
           left = omega (arith, c .more, g .left);
-          countable = omega (arith, c .more, g .countable, pick-countable (askedFor p kind s list) s (record { list = list; lent = m }) h);
+          countable = omega (arith, c .more, g .countable, pick-countable (askedFor p kind s (h .list)) s h a);
         }
 
-    next : Going turns (Code.pickedFrom (d .answer) (d .search)) (d .held .list)
+    next : Going turns (Code.pickedFrom (d .answer) (d .search)) (d .held)
     next = next-by (d .answer) refl
 
-  -- the answer r of a turn over tables and a scratch list m that have the rooms of l, the list after it, and that a turn less is to go
-  pub record Turned (turns : ℕ) (r : Picked) (after : List Place) : Type 0 where
+  -- the answer r of a turn, what is lent after it, and that a turn less is to go
+  pub record Turned (turns : ℕ) (r : Picked) (after : Held) : Type 0 where
     pub rest : ℕ
     pub less : rest < turns
     pub going : Going rest r after
 
-  module _ (list : List Place) (m : Lent) (rooms : roomsOf l ≡ roomsOf m) (r : Picked) (ns es : List ℕ) (after scratch : List Place) where
-    turned-on : (turns : ℕ) (s : Def.Search) → GoesOn turns s list → eqb (s .opened) 0 ≡ false
-        → Picks (pick (askedFor p kind s list) s (record { list = list; lent = m })) r ns es after scratch → Turned turns r after
+  module _ (h : Held) (rooms : roomsOf l ≡ roomsOf (h .lent)) (r : Picked) (ns es : List ℕ) (after scratch : List Place) where
+    turned-on : (turns : ℕ) (s : Def.Search) → GoesOn turns s h → eqb (s .opened) 0 ≡ false
+        → Picks (pick (askedFor p kind s (h .list)) s h) r ns es after scratch → Turned turns r (heldIn after ns es scratch)
     turned-on zero s g o x = absurd (omega (arith, g .left, g .countable))
     turned-on (suc turns) s g o x =
+        let z = d turns s h g o rooms in
         record {
           rest = turns;
           less = omega arith;
           going =
-              subst (λ (y : Picked). Going turns y after) (sym (x .answered))
-              (subst (λ (ps : List Place). Going turns (Code.pickedFrom (d turns s list g o m rooms .answer) (d turns s list g o m rooms .search)) ps) (sym (x .list-is)) (next turns s list g o m rooms));
+              subst (λ (y : Picked). Going turns y (heldIn after ns es scratch)) (sym (x .answered))
+              (subst (Going turns (Code.pickedFrom (z .answer) (z .search))) (held-is z r ns es after scratch x) (next turns s h g o rooms));
         }
 
-    turned-by : (v : Verdict) (turns : ℕ) (s : Def.Search) → GoingBy v turns s list → goingBy v (s .opened) ≡ true
-        → Picks (pick (askedFor p kind s list) s (record { list = list; lent = m })) r ns es after scratch → Turned turns r after
+    turned-by : (v : Verdict) (turns : ℕ) (s : Def.Search) → GoingBy v turns s h → goingBy v (s .opened) ≡ true
+        → Picks (pick (askedFor p kind s (h .list)) s h) r ns es after scratch → Turned turns r (heldIn after ns es scratch)
     turned-by (Refused n) turns s g o x = let z : _≡_ {A = ℕ} 0 1 = cc in absurd (omega arith)
     turned-by Accepted turns s g o x = turned-on turns s g (ne-eqb (s .opened) 0 (λ z. let y = ltb-true 0 (s .opened) o in absurd (omega (arith, z)))) x
 
-    pub turned : (turns : ℕ) (c : Picked) → Going turns c list → isGoing c ≡ true
-        → Picks (pick (askedFor p kind (searchOf (c .search)) list) (searchOf (c .search)) (record { list = list; lent = m })) r ns es after scratch → Turned turns r after
+    pub turned : (turns : ℕ) (c : Picked) → Going turns c h → isGoing c ≡ true
+        → Picks (pick (askedFor p kind (searchOf (c .search)) (h .list)) (searchOf (c .search)) h) r ns es after scratch → Turned turns r (heldIn after ns es scratch)
     turned turns c g o x = turned-by (c .verdict) turns (searchOf (c .search)) g o x
 
   -- what a turn asks
-  asks-by : (v : Verdict) (turns : ℕ) (s : Def.Search) (list : List Place) → GoingBy v turns s list → goingBy v (s .opened) ≡ true → s .opened ≤ length list
-  asks-by (Refused n) turns s list g o = let z : _≡_ {A = ℕ} 0 1 = cc in absurd (omega arith)
-  asks-by Accepted turns s list g o = g .room
+  asks-by : (v : Verdict) (turns : ℕ) (s : Def.Search) (h : Held) → GoingBy v turns s h → goingBy v (s .opened) ≡ true → s .opened ≤ length (h .list)
+  asks-by (Refused n) turns s h g o = let z : _≡_ {A = ℕ} 0 1 = cc in absurd (omega arith)
+  asks-by Accepted turns s h g o = g .room
 
-  pub asks : (turns : ℕ) (c : Picked) (list : List Place) → Going turns c list → isGoing c ≡ true → c .search .opened ≤ length list
-  asks turns c list g o = asks-by (c .verdict) turns (searchOf (c .search)) list g o
+  pub asks : (turns : ℕ) (c : Picked) (h : Held) → Going turns c h → isGoing c ≡ true → c .search .opened ≤ length (h .list)
+  asks turns c h g o = asks-by (c .verdict) turns (searchOf (c .search)) h g o
 
   -- ---- the end
 
-  nothing-open : (turns : ℕ) (s : Def.Search) (list : List Place) → eqb (s .opened) 0 ≡ true → picking turns p kind l s list ≡ ended s
-  unfolding picking
-  nothing-open zero s list o = refl
-  nothing-open (suc turns) s list o =
-      let d = pick (askedFor p kind s list) s (record { list = list; lent = l }) in
-      ap (λ (b : Bool). elim b [ true ↦ ended s | false ↦ unlessRefused (d .answer) (picking turns p kind l (d .search) (d .held .list)) ]) o
+  nothing-open : (turns : ℕ) (s : Def.Search) (h : Held) → eqb (s .opened) 0 ≡ true → (picking turns p kind l s (h .list) ≡ ended s) × (pickingLeaves turns p kind s h ≡ h)
+  unfolding picking pickingLeaves
+  nothing-open zero s h o = (refl, refl)
+  nothing-open (suc turns) s h o =
+      let d = pick (askedFor p kind s (h .list)) s (record { list = h .list; lent = l }) in
+      let f = pick (askedFor p kind s (h .list)) s h in (
+        ap (λ (b : Bool). elim b [ true ↦ ended s | false ↦ unlessRefused (d .answer) (picking turns p kind l (d .search) (d .held .list)) ]) o,
+        ap (λ (b : Bool). elim b [ true ↦ h | false ↦ unlessLast (f .answer) (f .held) (pickingLeaves turns p kind (f .search) (f .held)) ]) o,
+      )
 
-  over-by : (v : Verdict) (turns : ℕ) (c : Picked) (list : List Place) → GoingBy v turns (searchOf (c .search)) list → goingBy v (c .search .opened) ≡ false → endingBy v c ≡ e
-  over-by (Refused n) turns c list g o = sym g
-  over-by Accepted turns c list g o =
+  over-by : (v : Verdict) (turns : ℕ) (c : Picked) (h : Held) → GoingBy v turns (searchOf (c .search)) h → goingBy v (c .search .opened) ≡ false → (endingBy v c ≡ e) × (h ≡ k)
+  over-by (Refused n) turns c h g o = (sym (g .0), sym (g .1))
+  over-by Accepted turns c h g o =
       let z = ltb-false 0 (c .search .opened) o in
       let none-open : c .search .opened ≡ 0 = omega (arith, z) in
-      sym (g .comes-to ∙ nothing-open turns (searchOf (c .search)) list (eq-eqb (c .search .opened) 0 none-open))
+      let y = nothing-open turns (searchOf (c .search)) h (eq-eqb (c .search .opened) 0 none-open) in
+      (sym (g .comes-to ∙ y .0), sym (g .leaves ∙ y .1))
 
-  pub is-over : (turns : ℕ) (c : Picked) (list : List Place) → Going turns c list → isGoing c ≡ false → endingOf c ≡ e
-  is-over turns c list g o = over-by (c .verdict) turns c list g o
+  pub is-over : (turns : ℕ) (c : Picked) (h : Held) → Going turns c h → isGoing c ≡ false → leftIn c h ≡ left e k
+  is-over turns c h g o = let y = over-by (c .verdict) turns c h g o in ap₂ left (y .0) (y .1)
 
 -- whether an accepted call's run goes on
 pub accepted-goes : (c : Picked) → c .verdict ≡ Accepted → ltb 0 (c .search .opened) ≡ isGoing c

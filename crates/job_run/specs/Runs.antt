@@ -1,4 +1,4 @@
--- What the steps of a run make, and which ending of the definition its answer stands for.
+-- What the steps of a run make, and which ending of the definition its answer stands for, with what it leaves.
 use mathlib.Core.Bool.{Bool, true, false}
 use Prim.Native.Nat.{ℕ}
 use lib.Dec.{ltb}
@@ -9,7 +9,9 @@ use Rattle.records.specs.declared.Record.{Record}
 use Rattle.search.specs.declared.Started.{Started}
 use Rattle.search.specs.declared.Picked.{Picked}
 use Rattle.search.specs.Held.{searchOf}
+use Rattle.searches.specs.Pick.{Held}
 use Rattle.jobs.specs.Run.{Ending, refused, ended}
+use Rattle.jobs.specs.Left.{Left, left}
 
 abbrev pub chosen : Bool → ℕ → ℕ → ℕ
 chosen true at best = at
@@ -38,3 +40,7 @@ endingBy Accepted p = ended (searchOf (p .search))
 -- a refused call's number, or the search that the run came to
 abbrev pub endingOf : Picked → Ending
 endingOf p = endingBy (p .verdict) p
+
+-- the same, with what lists and tables hold then
+abbrev pub leftIn : Picked → Held → Left
+leftIn p after = left (endingOf p) after

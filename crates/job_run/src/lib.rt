@@ -5,18 +5,17 @@ ghost use lib.ListN.{length, take};
 ghost use Rattle.words.specs.I64.{i64Min};
 ghost use Rattle.records.specs.Structs.{places};
 ghost use Rattle.cutset.specs.Whole.{kindOf};
-ghost use Rattle.compile_records.specs.Queried.{lentOf};
 ghost use Rattle.searches.specs.Pick.{pick};
 ghost use Rattle.search.specs.Asked.{problemOf};
 ghost use Rattle.search.specs.Held.{searchOf};
 ghost use Rattle.pick.specs.Picks.{heldIn, Picks};
-ghost use Rattle.jobs.specs.Run.{largest, askedFor, runOf};
-ghost use Rattle.job_run.specs.Runs.{larger, pickedOf, isGoing, endingOf};
+ghost use Rattle.jobs.specs.Run.{largest, askedFor};
+ghost use Rattle.jobs.specs.Left.{leftOf};
+ghost use Rattle.job_run.specs.Runs.{larger, pickedOf, isGoing, leftIn};
 use records::Record;
 use refusals::Verdict;
 use search::Ask;
 use search::Picked;
-use search::Search;
 use search::Started;
 
 // The least i64.
@@ -45,20 +44,6 @@ fn largest(list: &[Record], n: usize) -> usize
     best
 }
 
-// The search that a run has come to.
-fn search_of(p: Picked) -> Search
-    ensures { λ s. ⌜ s ≡ p .search ⌝ }
-{
-    p.search
-}
-
-// How many records are open.
-fn opened_of(s: Search) -> usize
-    ensures { λ n. ⌜ n ≡ s .opened ⌝ }
-{
-    s.opened
-}
-
 // One pick, of the largest bound.
 fn turn(
     weights: &[u64],
@@ -73,8 +58,8 @@ fn turn(
     requires { ⌜ p .search .opened ≤ length (now list) ⌝ }
     ensures { λ r. ⌜ Picks (pick (askedFor (problemOf (now (weights .entry)) (now (profits .entry)) (ask .page) (ask .width)) (kindOf (ask .kind)) (searchOf (p .search)) (places (now (list .entry)))) (searchOf (p .search)) (heldIn (places (now (list .entry))) (now (nodes .entry)) (now (edges .entry)) (places (now (scratch .entry))))) r (now (nodes .exit)) (now (edges .exit)) (places (now (list .exit))) (places (now (scratch .exit))) ⌝ }
 {
-    let s = search_of(p);
-    let n = opened_of(s);
+    let s = search::search_of(p);
+    let n = search::opened_of(s);
     let place = largest(list, n);
     pick::pick(weights, profits, nodes, edges, list, scratch, ask, place, s)
 }
@@ -112,7 +97,7 @@ fn goes_on(p: Picked) -> bool
     }
 }
 
-// The run, to its end: the verdict of the last call, and the search that it came to.
+// The run, to its end: the verdict of the last call, and the search that it came to. Lists and tables hold what its calls left.
 pub fn run(
     weights: &[u64],
     profits: &[u64],
@@ -122,7 +107,7 @@ pub fn run(
     scratch: &mut [Record],
     ask: Ask,
 ) -> Picked
-    ensures { λ p. ⌜ endingOf p ≡ runOf (problemOf (now (weights .entry)) (now (profits .entry)) (ask .page) (ask .width)) (kindOf (ask .kind)) (lentOf (now (nodes .entry)) (now (edges .entry)) (places (now (scratch .entry)))) (places (now (list .entry))) ⌝ }
+    ensures { λ p. ⌜ leftIn p (heldIn (places (now (list .exit))) (now (nodes .exit)) (now (edges .exit)) (places (now (scratch .exit)))) ≡ leftOf (problemOf (now (weights .entry)) (now (profits .entry)) (ask .page) (ask .width)) (kindOf (ask .kind)) (heldIn (places (now (list .entry))) (now (nodes .entry)) (now (edges .entry)) (places (now (scratch .entry)))) ⌝ }
 {
     let bound = least();
     let a = search::start(weights, profits, ask, bound, list);

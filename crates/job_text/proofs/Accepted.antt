@@ -19,10 +19,9 @@ use Rattle.job_text.specs.declared.Part.the-variants.{CapWord, Page, Wid
 use Rattle.job_text.specs.declared.Place.{Place}
 use Rattle.job_text.specs.declared.Head.{Head}
 use Rattle.job_text.specs.declared.Reader.{Reader}
-use Rattle.job_text.specs.declared.ReadJob.{ReadJob}
 use Rattle.job_text.specs.Machine.{nextFrom, nextOf, headOf, isItemWord, endsItem, State, state, begun, movedTo, stepOf, runFrom, runOf, wholeAt}
 use Rattle.job_text.specs.Kept.{room, weightsIn, Holds, HasRead}
-use Rattle.job_text.specs.Reads.{kindFrom, readOf, nothingRead, Found, Reads}
+use Rattle.job_text.specs.Reads.{kindFrom, readOf, nothingRead, readFrom, endedOf, Found, Reads}
 use Rattle.job_text.proofs.Lines.{Whole, text-run}
 use Rattle.job_text.proofs.SoFar.{jobOf, front, inside, soFar}
 use Rattle.job_text.proofs.Behind.{Calm, Behind}
@@ -159,19 +158,6 @@ job-held s j whole =
 pub one-job : (t : List ℕ) (j k : Job) → IsText t j → IsText t k → j ≡ k
 one-job t j k is-j is-k = sym (job-held (runOf t) j (text-run t j is-j)) ∙ job-held (runOf t) k (text-run t k is-k)
 
--- What is read where the machine stands behind a whole text, and where it does not.
-abbrev pub readFrom : Reader → ReadJob
-readFrom r =
-    record {
-      ok = true;
-      page = r .head .page;
-      width = r .head .width;
-      kind = r .head .kind;
-      count = r .count;
-      weights = r .weights;
-      profits = r .profits;
-    }
-
 and-left : (a b : Bool) → a && b ≡ true → a ≡ true
 and-left true b e = refl
 and-left false b e = e
@@ -232,6 +218,15 @@ found-job t r has whole =
       as-read = reads-same (runOf t) r holds;
     }
 
+-- What is read where the machine stands behind a whole text, and where it does not.
+pub ended-whole : (r : Reader) → wholeAt (r .place) ≡ true → readFrom r ≡ endedOf r
+unfolding endedOf
+ended-whole r whole = rw whole
+
+pub ended-part-way : (r : Reader) → wholeAt (r .place) ≡ false → nothingRead ≡ endedOf r
+unfolding endedOf
+ended-part-way r part-way = rw part-way
+
 pub reads-whole : (t : List ℕ) (r : Reader) → HasRead t r → wholeAt (r .place) ≡ true → Reads t (readFrom r)
 reads-whole t r has whole =
     let it : Found t (readFrom r) = found-job t r has whole in
@@ -257,3 +252,25 @@ reads-nothing t r has part-way =
       found = λ e. absurd (let z : _≡_ {A = ℕ} 0 1 = cc in omega arith);
       outside = λ e. (no-text t r has part-way, refl);
     }
+
+-- Whether a text is a job's is told by where the machine stands behind it.
+pub data Told (t : List ℕ) : Type 0 where
+  a-job : (j : Job) → IsText t j → Told t
+  no-job : ((j : Job) → IsText t j → ⊥) → Told t
+
+told-by : (t : List ℕ) → length t ≤ mostBytes → (b : Bool) → wholeAt (runOf t .place) ≡ b → Told t
+told-by t fits true whole =
+    a-job (jobOf (runOf t .head) (runOf t .items)) (accepted t fits (whole-part (runOf t .place) whole) (whole-start (runOf t .place) whole))
+told-by t fits false part-way =
+    no-job (λ j is-text.
+    let whole : Whole (runOf t) (j .page) (j .width) (kindFrom (j .kind)) (j .items) = text-run t j is-text in
+    let closed : wholeAt (runOf t .place) ≡ true = whole-there (runOf t .place) (whole .part-is) (whole .at-start) in
+    let z : _≡_ {A = ℕ} 0 1 = cc in
+    omega arith)
+
+pub told : (t : List ℕ) → Told t
+told t =
+    elim (decLe (length t) mostBytes) [
+      | yes fits ↦ told-by t fits (wholeAt (runOf t .place)) refl
+      | no over ↦ no-job (λ j is-text. let fits : length t ≤ mostBytes = is-text .short in absurd (omega arith))
+    ]

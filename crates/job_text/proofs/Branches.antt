@@ -10,13 +10,14 @@ use borrow.Author.Tests.{lt-ltb, le-ltb, le-leb, lt-leb, eq-eqb, ne-eqb}
 use types.Run.{OneOf, miss}
 use denote.Enum.Declared
 use Rattle.numbers.specs.Decimal.{isDigit}
+use Rattle.jobs.specs.Text.{nineDigits, mostBytes}
 use Rattle.job_text.specs.declared.Part.{Part}
 use Rattle.job_text.specs.declared.Part.the-variants.{CapWord, Page, WidthWord, Width, CutWord, Choice, Lel, Frontier, ItemWord, Weight, Profit, Fault}
 use Rattle.job_text.specs.declared.Place.{Place}
 use Rattle.job_text.specs.declared.Head.{Head}
 use Rattle.job_text.specs.Machine.{place, faulted, spelledOf, grown, pushedOf, closedOf, countedOf, chosenOf, nextFrom, nextOf, headOf, isItemWord, endsItem, wholeAt}
 use Rattle.job_text.specs.declared.Reader.{Reader}
-use Rattle.job_text.specs.Kept.{storedAt, movedOn, movedWith, movedBy, takenOf}
+use Rattle.job_text.specs.Kept.{room, storedAt, movedOn, movedWith, movedBy, overrunOf, takenOf, steppedOf}
 use Rattle.job_text.proofs.Part.{the-type}
 
 -- a word's letter
@@ -70,12 +71,14 @@ pushed-leading p b low high some zero = rw (is-digit b low high, ne-eqb (p .at) 
 pub pushed-tenth : (p : Place) (b : ℕ) → 48 ≤ b → b ≤ 57 → (p .at ≡ 0 → ⊥) → (p .number ≡ 0 → ⊥) → 100000000 ≤ p .number → faulted ≡ pushedOf p b
 unfolding pushedOf grown
 pushed-tenth p b low high some large most =
-    rw (is-digit b low high, ne-eqb (p .at) 0 some, ne-eqb (p .number) 0 large, le-ltb (p .number) 100000000 most)
+    let over : nineDigits ≤ p .number * 10 + (b - 48) = omega arith in
+    rw (is-digit b low high, ne-eqb (p .at) 0 some, ne-eqb (p .number) 0 large, le-ltb (p .number * 10 + (b - 48)) nineDigits over)
 
 pub pushed-more : (p : Place) (b d : ℕ) → 48 ≤ b → b ≤ 57 → d ≡ b - 48 → (p .at ≡ 0 → ⊥) → (p .number ≡ 0 → ⊥) → p .number < 100000000 → place (p .part) 1 (p .number * 10 + d) ≡ pushedOf p b
 unfolding pushedOf grown
 pushed-more p b d low high e some large few =
-    rw (is-digit b low high, ne-eqb (p .at) 0 some, ne-eqb (p .number) 0 large, lt-ltb (p .number) 100000000 few) (ap (λ x. place (p .part) 1 (p .number * 10 + x)) e)
+    let fits : p .number * 10 + (b - 48) < nineDigits = omega arith in
+    rw (is-digit b low high, ne-eqb (p .at) 0 some, ne-eqb (p .number) 0 large, lt-ltb (p .number * 10 + (b - 48)) nineDigits fits) (ap (λ x. place (p .part) 1 (p .number * 10 + x)) e)
 
 -- a number's end
 pub closed-empty : (p : Place) (then : Part) → p .at ≡ 0 → faulted ≡ closedOf p then
@@ -172,13 +175,13 @@ unfolding wholeAt
 whole-other p t e not-it = rw (sym e ∙ not-it)
 
 -- a number's place in the list
-pub stored-in : (l : List ℕ) (at n : ℕ) → at < 64 → set l at n ≡ storedAt l at n
+pub stored-in : (l : List ℕ) (at n : ℕ) → at < room → set l at n ≡ storedAt l at n
 unfolding storedAt
-stored-in l at n h = rw (lt-ltb at 64 h)
+stored-in l at n h = rw (lt-ltb at room h)
 
-pub stored-past : (l : List ℕ) (at n : ℕ) → 64 ≤ at → l ≡ storedAt l at n
+pub stored-past : (l : List ℕ) (at n : ℕ) → room ≤ at → l ≡ storedAt l at n
 unfolding storedAt
-stored-past l at n h = rw (le-ltb at 64 h)
+stored-past l at n h = rw (le-ltb at room h)
 
 -- The byte that ends an item, and the one that does not.
 taken-by : (r : Reader) (b : ℕ) (p : Place) (h : Head) → p ≡ nextOf (r .place) b → h ≡ headOf (r .place .part) (p .number) (r .head) → movedBy r p h ≡ takenOf r b
@@ -199,3 +202,16 @@ taken-with r b p h t place-is head-is test ends = ending r p h (sym test ∙ end
 
 pub taken-on : (r : Reader) (b : ℕ) (p : Place) (h : Head) (t : Bool) → p ≡ nextOf (r .place) b → h ≡ headOf (r .place .part) (p .number) (r .head) → t ≡ endsItem (r .place .part) (p .part) → t ≡ false → movedOn r p h ≡ takenOf r b
 taken-on r b p h t place-is head-is test goes-on = going-on r p h (sym test ∙ goes-on) ∙ taken-by r b p h place-is head-is
+
+-- The reader behind one byte more, by its counts.
+pub stepped-on : (r : Reader) (b : ℕ) → r .bytes < mostBytes → r .count < mostBytes → takenOf r b ≡ steppedOf r b
+unfolding steppedOf
+stepped-on r b few-bytes few-items = rw (lt-ltb (r .bytes) mostBytes few-bytes, lt-ltb (r .count) mostBytes few-items)
+
+pub stepped-full : (r : Reader) (b : ℕ) → mostBytes ≤ r .bytes → overrunOf r ≡ steppedOf r b
+unfolding steppedOf
+stepped-full r b full = rw (le-ltb (r .bytes) mostBytes full)
+
+pub stepped-crowded : (r : Reader) (b : ℕ) → r .bytes < mostBytes → mostBytes ≤ r .count → overrunOf r ≡ steppedOf r b
+unfolding steppedOf
+stepped-crowded r b few full = rw (lt-ltb (r .bytes) mostBytes few, le-ltb (r .count) mostBytes full)

@@ -1,11 +1,12 @@
 -- What a reader of the code keeps of the machine's state: all but the items, of which it has the first 64 and the number.
-use mathlib.Core.Bool.{cond}
+use mathlib.Core.Bool.{cond, _&&_}
 use mathlib.Core.Path.{_≡_}
 use mathlib.Core.List.{List, [], _∷_}
 use Prim.Native.Nat.{ℕ, zero, suc, _+_, _<_, _≤_}
 use lib.Dec.{ltb}
 use lib.ListN.{length, set}
 use Rattle.knapsack.specs.Items.{Item}
+use Rattle.diagram.specs.Record.{pathRoom}
 use Rattle.jobs.specs.Text.{mostBytes}
 use Rattle.job_text.specs.declared.Part.the-variants.{Fault}
 use Rattle.job_text.specs.declared.Place.{Place}
@@ -13,9 +14,9 @@ use Rattle.job_text.specs.declared.Head.{Head}
 use Rattle.job_text.specs.declared.Reader.{Reader}
 use Rattle.job_text.specs.Machine.{faulted, nextOf, headOf, endsItem, State, runOf}
 
--- how many items are kept
+-- how many items are kept: as many as a path has decisions
 abbrev pub room : ℕ
-room = 64
+room = pathRoom
 
 -- the weights of the first k items, and 0 behind them
 unfoldable pub weightsIn : ℕ → List Item → List ℕ
@@ -49,7 +50,7 @@ movedWith r p h =
       profits = storedAt (r .profits) (r .count) (p .number);
     }
 
--- a reader of too many bytes
+-- a reader whose counts are at their end
 unfoldable pub overrunOf : Reader → Reader
 overrunOf r = record { place = faulted; head = r .head; bytes = r .bytes; count = r .count; weights = r .weights; profits = r .profits }
 
@@ -59,6 +60,10 @@ movedBy r p h = cond (endsItem (r .place .part) (p .part)) (movedWith r p h) (mo
 -- the reader behind one byte more of a text within the bound
 unfoldable pub takenOf : Reader → ℕ → Reader
 takenOf r b = movedBy r (nextOf (r .place) b) (headOf (r .place .part) (nextOf (r .place) b .number) (r .head))
+
+-- The reader behind one byte more. A text of `mostBytes` bytes has fewer items, so a reader of a text stops at its bytes.
+unfoldable pub steppedOf : Reader → ℕ → Reader
+steppedOf r b = cond (ltb (r .bytes) mostBytes && ltb (r .count) mostBytes) (takenOf r b) (overrunOf r)
 
 pub record Holds (s : State) (r : Reader) : Type 0 where
   pub place-is : r .place ≡ s .place

@@ -6,7 +6,7 @@ use lib.Dec.{eqb, ltb}
 use lib.ListN.{length, getD}
 use Rattle.knapsack.specs.Items.{Item}
 use Rattle.numbers.specs.Decimal.{isDigit}
-use Rattle.jobs.specs.Text.{LF, TAB, cap, width, cut, lel, frontierWord, item}
+use Rattle.jobs.specs.Text.{LF, TAB, cap, width, cut, lel, frontierWord, item, nineDigits}
 use Rattle.cutset.specs.declared.Kind.the-variants.{LastExactLayer, Frontier as FrontierKind}
 use Rattle.job_text.specs.declared.Part.{Part}
 use Rattle.job_text.specs.declared.Part.the-variants.{CapWord, Page, WidthWord, Width, CutWord, Choice, Lel, Frontier, ItemWord, Weight, Profit, Fault}
@@ -34,7 +34,7 @@ grown p d =
     cond
     (eqb (p .at) 0)
     (place (p .part) 1 d)
-    (cond (eqb (p .number) 0) faulted (cond (ltb (p .number) 100000000) (place (p .part) 1 (p .number * 10 + d)) faulted))
+    (cond (eqb (p .number) 0) faulted (cond (ltb (p .number * 10 + d) nineDigits) (place (p .part) 1 (p .number * 10 + d)) faulted))
 
 unfoldable pub pushedOf : Place → ℕ → Place
 pushedOf p b = cond (isDigit b) (grown p (b - 48)) faulted

@@ -1,5 +1,5 @@
 -- What is read from a text: its job, or nothing where it is no job's text.
-use mathlib.Core.Bool.{true, false}
+use mathlib.Core.Bool.{true, false, cond}
 use mathlib.Core.Path.{_≡_}
 use mathlib.Core.List.{List}
 use Prim.Native.Nat.{ℕ}
@@ -8,7 +8,9 @@ use Rattle.diagram.specs.After4.{CutsetKind, lastExactLayer, frontier}
 use Rattle.jobs.specs.Text.{Job, IsText}
 use Rattle.cutset.specs.declared.Kind.{Kind}
 use Rattle.cutset.specs.declared.Kind.the-variants.{LastExactLayer, Frontier}
+use Rattle.job_text.specs.declared.Reader.{Reader}
 use Rattle.job_text.specs.declared.ReadJob.{ReadJob}
+use Rattle.job_text.specs.Machine.{wholeAt}
 use Rattle.job_text.specs.Kept.{room, weightsIn, profitsIn}
 
 -- the cutset kind as the code has it
@@ -40,6 +42,23 @@ nothingRead =
       weights = replicate room 0;
       profits = replicate room 0;
     }
+
+-- what a reader read, were the text whole
+abbrev pub readFrom : Reader → ReadJob
+readFrom r =
+    record {
+      ok = true;
+      page = r .head .page;
+      width = r .head .width;
+      kind = r .head .kind;
+      count = r .count;
+      weights = r .weights;
+      profits = r .profits;
+    }
+
+-- what a reader read, at the text's end
+unfoldable pub endedOf : Reader → ReadJob
+endedOf r = cond (wholeAt (r .place)) (readFrom r) nothingRead
 
 -- a job that has this text, and as which it was read
 pub record Found (t : List ℕ) (r : ReadJob) : Type 0 where

@@ -1,18 +1,18 @@
 // A job's text, read byte by byte: the place in the grammar, the number that is being read, and the job as far as it was read.
 ghost use mathlib.Core.Path.{_≡_};
 ghost use mathlib.Core.List.{List, [], _∷_, _++_};
-ghost use Prim.Native.Nat.{ℕ, _+_, _<_, _≤_};
+ghost use Prim.Native.Nat.{ℕ, _<_};
 ghost use Rattle.jobs.specs.Text.{mostBytes};
 ghost use Rattle.job_text.specs.Machine.{faulted, spelledOf, closedOf, pushedOf, countedOf, chosenOf, nextOf, headOf, isItemWord, endsItem, wholeAt};
-ghost use Rattle.job_text.specs.Kept.{storedAt, movedOn, movedWith, overrunOf, takenOf, HasRead};
-ghost use Rattle.job_text.specs.Reads.{nothingRead, Reads};
+ghost use Rattle.job_text.specs.Kept.{storedAt, movedOn, movedWith, overrunOf, takenOf, steppedOf, HasRead};
+ghost use Rattle.job_text.specs.Reads.{nothingRead, endedOf, Reads};
 use cutset::Kind;
 
 // How many items are kept; those behind them are counted only.
 const ROOM: usize = 64;
 
-// A text has no more bytes.
-const MOST_BYTES: u64 = 65535;
+// A text has no more bytes, and so no more items.
+const MOST_BYTES: usize = 65535;
 
 // From here on a number has nine digits, and no other may follow.
 const NINE_DIGITS: u64 = 100000000;
@@ -56,7 +56,7 @@ pub struct Head {
 pub struct Reader {
     pub place: Place,
     pub head: Head,
-    pub bytes: u64,
+    pub bytes: usize,
     pub count: usize,
     pub weights: [u64; 64],
     pub profits: [u64; 64],
@@ -333,7 +333,7 @@ fn moved(r: Reader, place: Place, head: Head) -> Reader
 
 // The same where an item ends.
 fn with_item(r: Reader, place: Place, head: Head) -> Reader
-    requires { ⌜ (r .bytes < mostBytes) × (r .count ≤ r .bytes) ⌝ }
+    requires { ⌜ (r .bytes < mostBytes) × (r .count < mostBytes) ⌝ }
     ensures { λ s. ⌜ s ≡ movedWith r place head ⌝ }
 {
     let count = r.count;
@@ -351,7 +351,7 @@ fn with_item(r: Reader, place: Place, head: Head) -> Reader
     }
 }
 
-// A reader of too many bytes.
+// A reader whose counts are at their end.
 fn overrun(r: Reader) -> Reader
     ensures { λ s. ⌜ s ≡ overrunOf r ⌝ }
 {
@@ -371,7 +371,7 @@ fn overrun(r: Reader) -> Reader
 
 // The reader behind one byte more of a text within the bound.
 fn taken(r: Reader, byte: u8) -> Reader
-    requires { ⌜ (r .bytes < mostBytes) × (r .count ≤ r .bytes) ⌝ }
+    requires { ⌜ (r .bytes < mostBytes) × (r .count < mostBytes) ⌝ }
     ensures { λ s. ⌜ s ≡ takenOf r byte ⌝ }
 {
     let old = r.place;
@@ -387,16 +387,17 @@ fn taken(r: Reader, byte: u8) -> Reader
     }
 }
 
-// The reader behind one byte more.
+// The reader behind one byte more, whatever the reader was. One whose counts are at their end goes to a fault.
 pub fn step(r: Reader, byte: u8) -> Reader
-    requires { ⌜ r .count ≤ r .bytes ⌝ }
-    ensures { λ s. ⌜ ((t : List ℕ) → HasRead t r → HasRead (t ++ (byte ∷ [])) s) ⌝ }
+    ensures { λ s. ⌜ (s ≡ steppedOf r byte) × ((t : List ℕ) → HasRead t r → HasRead (t ++ (byte ∷ [])) s) ⌝ }
 {
-    if r.bytes < MOST_BYTES {
-        taken(r, byte)
-    } else {
-        overrun(r)
+    if r.bytes >= MOST_BYTES {
+        return overrun(r);
     }
+    if r.count >= MOST_BYTES {
+        return overrun(r);
+    }
+    taken(r, byte)
 }
 
 // Whether a text is whole at this place.
@@ -422,9 +423,9 @@ fn nothing() -> ReadJob
     }
 }
 
-// What was read, at the text's end.
+// What was read, at the text's end, whatever the reader is.
 pub fn ended(r: Reader) -> ReadJob
-    ensures { λ s. ⌜ ((t : List ℕ) → HasRead t r → Reads t s) ⌝ }
+    ensures { λ s. ⌜ (s ≡ endedOf r) × ((t : List ℕ) → HasRead t r → Reads t s) ⌝ }
 {
     let place = r.place;
     if whole_at(place) {

@@ -1,4 +1,4 @@
--- 'Case R, whole', and the refusals that a job's run can meet, from a job to its answer's bytes.
+-- 'Case R, whole', and the refusals that a job's run can meet, from a job to its answer's bytes, and to what is left in lists and tables.
 use mathlib.Core.Path.{_≡_}
 use mathlib.Core.List.{List, [], _∷_}
 use Prim.Native.Nat.{ℕ}
@@ -8,8 +8,10 @@ use Rattle.knapsack.specs.Items.{Item}
 use Rattle.diagram.specs.After4.{lastExactLayer}
 use Rattle.searches.specs.Places.{Place}
 use Rattle.searches.specs.Compile.{Lent}
+use Rattle.searches.specs.Pick.{Held}
 use Rattle.jobs.specs.Text.{Job, textOf}
 use Rattle.jobs.specs.Run.{run}
+use Rattle.jobs.specs.Left.{leftBy}
 use Rattle.jobs.specs.Page.{answerOf}
 
 -- 'for items (1,4) (1,3) (1,2), capacity 2, width 1, `lel`'
@@ -36,3 +38,27 @@ CaseR =
     × (answer R (lend 72 60 2) 2 ≡ 98 ∷ 101 ∷ 115 ∷ 116 ∷ 9 ∷ 55 ∷ 10 ∷ 105 ∷ 116 ∷ 101 ∷ 109 ∷ 9 ∷ 48 ∷ 9 ∷ 49 ∷ 10 ∷ 105 ∷ 116 ∷ 101 ∷ 109 ∷ 9 ∷ 49 ∷ 9 ∷ 49 ∷ 10 ∷ 105 ∷ 116 ∷ 101 ∷ 109 ∷ 9 ∷ 50 ∷ 9 ∷ 48 ∷ 10 ∷ 112 ∷ 105 ∷ 99 ∷ 107 ∷ 115 ∷ 9 ∷ 51 ∷ 10 ∷ [])
     -- Case R: a scratch place short, and no place for the root
     × ((answer R (lend 72 60 1) 2 ≡ 114 ∷ 101 ∷ 102 ∷ 117 ∷ 115 ∷ 101 ∷ 100 ∷ 9 ∷ 49 ∷ 51 ∷ 10 ∷ []) × (answer R (lend 72 60 2) 0 ≡ 114 ∷ 101 ∷ 102 ∷ 117 ∷ 115 ∷ 101 ∷ 100 ∷ 9 ∷ 49 ∷ 51 ∷ 10 ∷ []))
+
+abbrev place : ℕ → ℕ → ℕ → ℕ → List ℕ → Place
+place capacity value bound depth bytes = record { capacity = capacity; value = pos value; bound = pos bound; depth = depth; bytes = bytes }
+
+abbrev lentFor : Lent → ℕ → Held
+lentFor l places = record { list = replicate places old; lent = l }
+
+abbrev leaves : Job → Lent → ℕ → Held
+leaves j l places = leftBy j (lentFor l places) .held
+
+-- What the runs of case R leave. Its third pick drops a record, its second one writes over the first five rows of each table.
+abbrev pub CaseRLeaves : Type 0
+CaseRLeaves =
+    -- Case R: the list; the scratch list; the edge table and the node table
+    (leaves R (lend 72 60 2) 2 .list ≡ place 2 0 5 1 (replicate 64 0) ∷ place 2 0 5 1 (replicate 64 0) ∷ [])
+    × (leaves R (lend 72 60 2) 2 .lent .records ≡ place 1 4 9 1 (1 ∷ replicate 63 0) ∷ place 2 0 5 1 (replicate 64 0) ∷ [])
+    × (leaves R (lend 72 60 2) 2 .lent .edges ≡ 0 ∷ 1 ∷ 3 ∷ 3 ∷ 0 ∷ 0 ∷ 2 ∷ 2 ∷ 0 ∷ 0 ∷ 2 ∷ 3 ∷ 5 ∷ 2 ∷ 0 ∷ 2 ∷ 4 ∷ 4 ∷ 0 ∷ 0 ∷ 1 ∷ 3 ∷ 4 ∷ 0 ∷ 3 ∷ 1 ∷ 3 ∷ 2 ∷ 0 ∷ 3 ∷ 1 ∷ 6 ∷ 3 ∷ 3 ∷ 0 ∷ 1 ∷ 6 ∷ 2 ∷ 0 ∷ 7 ∷ 2 ∷ 6 ∷ 3 ∷ 3 ∷ 8 ∷ 2 ∷ 6 ∷ 2 ∷ 0 ∷ 9 ∷ 6 ∷ 7 ∷ 5 ∷ 2 ∷ 0 ∷ 6 ∷ 8 ∷ 4 ∷ 0 ∷ 0 ∷ [])
+    × (leaves R (lend 72 60 2) 2 .lent .nodes ≡ 1 ∷ 1 ∷ 9223372036854775812 ∷ 0 ∷ 0 ∷ 0 ∷ 9223372036854775813 ∷ 1 ∷ 0 ∷ 2 ∷ 9223372036854775815 ∷ 0 ∷ 1 ∷ 1 ∷ 9223372036854775808 ∷ 1 ∷ 1 ∷ 2 ∷ 9223372036854775812 ∷ 0 ∷ 2 ∷ 2 ∷ 9223372036854775810 ∷ 1 ∷ 0 ∷ 3 ∷ 9223372036854775815 ∷ 0 ∷ 5 ∷ 5 ∷ 18446744073709551615 ∷ 1 ∷ 1 ∷ 3 ∷ 9223372036854775812 ∷ 0 ∷ 4 ∷ 4 ∷ 18446744073709551615 ∷ 1 ∷ 0 ∷ 2 ∷ 9223372036854775815 ∷ 0 ∷ 5 ∷ 5 ∷ 18446744073709551615 ∷ 17 ∷ 2 ∷ 2 ∷ 9223372036854775815 ∷ 9223372036854775810 ∷ 7 ∷ 10 ∷ 9223372036854775810 ∷ 6 ∷ 1 ∷ 3 ∷ 9223372036854775817 ∷ 9223372036854775808 ∷ 11 ∷ 11 ∷ 18446744073709551615 ∷ 4 ∷ 2 ∷ 3 ∷ 9223372036854775815 ∷ 9223372036854775808 ∷ 12 ∷ 12 ∷ 18446744073709551615 ∷ 4 ∷ [])
+    -- a scratch place short: the list keeps the root, the scratch list what it held, the edge table holds the finished diagram
+    × (leaves R (lend 72 60 1) 2 .list ≡ place 2 0 9223372036854775807 0 (replicate 64 0) ∷ old ∷ [])
+    × (leaves R (lend 72 60 1) 2 .lent .records ≡ old ∷ [])
+    × (leaves R (lend 72 60 1) 2 .lent .edges ≡ 0 ∷ 1 ∷ 1 ∷ 4 ∷ 0 ∷ 0 ∷ 2 ∷ 0 ∷ 0 ∷ 0 ∷ 2 ∷ 3 ∷ 3 ∷ 3 ∷ 0 ∷ 2 ∷ 4 ∷ 2 ∷ 0 ∷ 0 ∷ 1 ∷ 5 ∷ 3 ∷ 3 ∷ 0 ∷ 1 ∷ 3 ∷ 2 ∷ 0 ∷ 3 ∷ 1 ∷ 6 ∷ 3 ∷ 3 ∷ 0 ∷ 1 ∷ 6 ∷ 2 ∷ 0 ∷ 7 ∷ 2 ∷ 6 ∷ 3 ∷ 3 ∷ 8 ∷ 2 ∷ 6 ∷ 2 ∷ 0 ∷ 9 ∷ 6 ∷ 7 ∷ 5 ∷ 2 ∷ 0 ∷ 6 ∷ 8 ∷ 4 ∷ 0 ∷ 0 ∷ [])
+    -- no place for the root: all is as it was
+    × (leaves R (lend 72 60 2) 0 ≡ lentFor (lend 72 60 2) 0)

@@ -45,7 +45,7 @@ unfoldable pub unlessRefused : Pick.Picked → Ending → Ending
 unlessRefused (Pick.refusedBy n) e = refused n
 unlessRefused Pick.accepted e = e
 
--- The picks from a search on, `turns` of them at most. Tables and scratch list are lent anew for each; what they hold never enters an answer.
+-- The picks from a search on, `turns` of them at most. Tables and scratch list are lent anew for each; what they hold never enters an answer. (What they hold after a run: Left.)
 unfoldable pub picking : ℕ → Problem → CutsetKind → Lent → Search → List Place → Ending
 picking zero p kind l s list = ended s
 picking (suc turns) p kind l s list =

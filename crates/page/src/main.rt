@@ -1,10 +1,4 @@
-// Answers one job: the text of the file that its argument names, or of standard input where it has none.
-
-// The node table has 1,024 rows of 8 words, the edge table 1,792 rows of 5.
-const NODE_WORDS: usize = 8192;
-
-const EDGE_WORDS: usize = 8960;
-
+// Answers one job over document 01's sizes: the text of the file that its argument names, or of standard input where it has none.
 fn main() {
     let mut text = io::large_buffer();
     let taken = job_io::read_job(&mut text);
@@ -12,8 +6,6 @@ fn main() {
         return;
     }
     let count = taken.count;
-    let mut nodes = [0u64; NODE_WORDS];
-    let mut edges = [0u64; EDGE_WORDS];
-    let answer = job::answer(&text[..count], &mut nodes, &mut edges);
+    let answer = job_tables::answer(&text[..count]);
     job_io::write(answer);
 }

@@ -1,9 +1,4 @@
-// Answers the jobs of the files that its arguments name, in turn: for each its name, a line end and the answer.
-
-// The node table has 1,024 rows of 8 words, the edge table 1,792 rows of 5.
-const NODE_WORDS: usize = 8192;
-
-const EDGE_WORDS: usize = 8960;
+// Answers, over document 01's sizes, the jobs of the files that its arguments name, in turn: for each its name, a line end and the answer.
 
 // Writes argument i and a line end.
 fn write_name(i: usize) {
@@ -13,7 +8,7 @@ fn write_name(i: usize) {
     io::write_all(1, b"\n");
 }
 
-// Answers the job of the file that argument i names. Each job has tables of its own.
+// Answers the job of the file that argument i names.
 fn answer_named(i: usize) {
     let mut text = io::large_buffer();
     let taken = job_io::read_named(i, &mut text);
@@ -21,9 +16,7 @@ fn answer_named(i: usize) {
         return;
     }
     let count = taken.count;
-    let mut nodes = [0u64; NODE_WORDS];
-    let mut edges = [0u64; EDGE_WORDS];
-    let answer = job::answer(&text[..count], &mut nodes, &mut edges);
+    let answer = job_tables::answer(&text[..count]);
     job_io::write(answer);
 }
 

@@ -81,4 +81,4 @@ drop-zeros (suc n) (suc r) = let less : suc n - suc r ≡ n - r = omega arith in
 -- a text at the front of an array of zeros
 pub put-says : {t a : List ℕ} {r : ℕ} (most : ℕ) → Put t 0 (replicate 671 0) r a → r ≤ most → Says t most (record { bytes = a; count = r })
 put-says {t} {a} {r} most p h =
-    record { text-is = front-put p; rest-zero = back-put p ∙ drop-zeros 671 r; short = h }
+    record { text-is = front-put p; counted = omega (arith, p .behind); rest-zero = back-put p ∙ drop-zeros 671 r; short = h }

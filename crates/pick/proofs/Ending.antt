@@ -20,8 +20,9 @@ use Rattle.search.specs.declared.Search.{Search}
 use Rattle.search.specs.declared.Picked.{Picked}
 use Rattle.search.specs.Held.{searchOf}
 use Rattle.search.specs.Answered.{pickedFrom}
-use Rattle.pick.specs.declared.Tally.{Tally}
-use Rattle.pick.specs.Settled.{Concluding, concludeIf, concludeBy, conclusion, isAccepted, Replaceable, replaceIf, Settling, leftOpen, settleIf, settleBy, settle, Settles}
+use Rattle.pick_steps.specs.declared.Tally.{Tally}
+use Rattle.pick_steps.specs.Concluded.{Concluding, concludeIf, concludeBy, conclusion, isAccepted}
+use Rattle.pick.specs.Settled.{Replaceable, replaceIf, Settling, leftOpen, settleIf, settleBy, settle, Settles}
 
 -- the places above best, once it is known whether the first is one
 abbrev keptIf : Bool → ℤ → Place → List Place → List Place

@@ -26,13 +26,13 @@ use Rattle.search.proofs.Picked as P
 use Rattle.search.proofs.Picked.Laws as P′
 use Rattle.search.specs.declared.Ask.{Ask}
 use Rattle.compile_records.specs.declared.Query.{Query}
-use Rattle.pick.specs.declared.Tally.{Tally}
+use Rattle.pick_steps.specs.declared.Tally.{Tally}
 use Rattle.search.proofs.Ask as K
 use Rattle.search.proofs.Ask.Laws as K′
 use Rattle.compile_records.proofs.Query as Q
 use Rattle.compile_records.proofs.Query.Laws as Q′
-use Rattle.pick.proofs.Tally as Y
-use Rattle.pick.proofs.Tally.Laws as Y′
+use Rattle.pick_steps.proofs.Tally as Y
+use Rattle.pick_steps.proofs.Tally.Laws as Y′
 
 pub search-value : Search → Val
 search-value x = LL.val S.the-type S′.the-laws x

@@ -1,7 +1,7 @@
 -- The steps of a pick, one behind the other, are the definition's pick.
 use mathlib.Core.Path.{_≡_, refl, sym, ap, ap₂, subst, _∙_}
 use mathlib.Core.Bool.{Bool, true, false, cond}
-use mathlib.Core.List.{List, [], _∷_, _++_, map, append-nil}
+use mathlib.Core.List.{List, [], _∷_, _++_, append-nil}
 use mathlib.Core.Option.{Option, none, some}
 use Prim.Native.Nat.{ℕ, zero, suc, _+_, _-_, _^_, _<_, _≤_}
 use native.Mathlib.Omega.{arith}
@@ -12,7 +12,6 @@ use lib.ListN.{length, getD, take, drop, length-append, length-map}
 use lib.Seq.{take-at}
 use borrow.Author.Tests.{le-leb}
 use Rattle.diagram.specs.After6.{Outcome, drained, Answer as Run, refused as stoppedAt, finished}
-use Rattle.layout.specs.Table.{over}
 use Rattle.calls.specs.Asked.{Problem, Given}
 use Rattle.calls.specs.Refusals.{compileRefusal}
 use Rattle.calls.specs.Compile as Call
@@ -20,20 +19,19 @@ use Rattle.calls.specs.Compile.{Request, Rooms, Compiled, refused, compiled, co
 use Rattle.refusals.specs.declared.Verdict.{Verdict}
 use Rattle.refusals.specs.declared.Verdict.the-variants.{Accepted, Refused}
 use Rattle.refusals.specs.Verdict.{refusalOf}
-use Rattle.finalize.specs.Ended.{valueFrom}
 use Rattle.compile.specs.declared.Answer.{Answer}
 use Rattle.compile.specs.Answered.{answerFrom}
 use Rattle.records.specs.declared.Record.{Record}
 use Rattle.records.specs.Structs.{placeFrom, places, noRecord}
 use Rattle.records.proofs.Places.{places-length}
 use Rattle.records.proofs.Lists.{length-without}
-use Rattle.searches.specs.Places.{Place, givenAt, placeOf, noPlace, overPlaces}
+use Rattle.searches.specs.Places.{Place, givenAt, placeOf, overPlaces}
 use Rattle.searches.specs.Compile as Into
 use Rattle.searches.specs.Compile.{Lent, Effect, roomsOf, effect, drainInto, effectOf, compileEffect, after, compile}
 use Rattle.searches.specs.Search as Def
-use Rattle.searches.specs.Search.{openIn, without, aboveBest, mostPicks}
+use Rattle.searches.specs.Search.{openIn, without, aboveBest}
 use Rattle.searches.specs.Pick as Pick
-use Rattle.searches.specs.Pick.{Asked, Held, pickedFrom, pickRefusal, requestFor, refusing, accepting, ifRoom, appended, lentAfter, afterCompile, ifAbove, unless, pick, refusedBy, accepted, better, counted}
+use Rattle.searches.specs.Pick.{Asked, Held, pickedFrom, pickRefusal, requestFor, refusing, accepting, ifRoom, appended, lentAfter, afterCompile, ifAbove, unless, pick, accepted, better, counted}
 use Rattle.search.specs.declared.Search.{Search}
 use Rattle.search.specs.declared.Picked.{Picked}
 use Rattle.search.specs.Held.{searchOf, searchFrom, optionOf}
@@ -43,13 +41,14 @@ use Rattle.search.proofs.Asking.{value-is}
 use Rattle.search.proofs.Firsts.{Allowed, allowed}
 use Rattle.search.specs.declared.Ask.{Ask}
 use Rattle.compile_records.specs.declared.Query.{Query}
-use Rattle.pick.specs.declared.Tally.{Tally}
+use Rattle.pick_steps.specs.declared.Tally.{Tally}
 use Rattle.compile_records.specs.Queried.{askedBy, lentOf, Compiles}
-use Rattle.pick.specs.Steps as Steps
-use Rattle.pick.specs.Steps.{numbersOf, queryFrom, wanted, idling, compileIf, finding, tallyOf}
+use Rattle.pick_steps.specs.Steps as Steps
+use Rattle.pick_steps.specs.Steps.{numbersOf, queryFrom, wanted, idling, finding, tallyOf}
+use Rattle.pick.specs.Compiled.{compileIf}
 use Rattle.pick.specs.Settled.{Settling, Ending, leftOpen, settleIf, settleBy, settle, Settles}
 use Rattle.pick.specs.Picks.{askedIn, heldIn, Picks}
-use Rattle.pick.proofs.Numbers.{first-none}
+use Rattle.pick_steps.proofs.Numbers.{first-none}
 
 -- the record in a place, or what stands for one beyond the list's end
 pub picked-is : (rs : List Record) (place : ℕ) → givenAt (placeFrom (getD rs place noRecord)) ≡ pickedFrom (places rs) place

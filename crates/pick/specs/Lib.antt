@@ -1,4 +1,4 @@
--- What a pick is asked, what its steps make, and its one promise.
-pub mod Steps
+-- What the calls of a pick over lent lists make, and its promise.
+pub mod Compiled
 pub mod Settled
 pub mod Picks

@@ -1,5 +1,6 @@
 -- Laws of record structs in a lent list, and in flat words.
 pub mod Again
+pub mod Branches
 pub mod Chosen
 pub mod Drained
 pub mod Entered

@@ -11,7 +11,8 @@ ghost use Rattle.records.specs.Moves.{Removed, Appended};
 use rows::PATH_ROOM;
 use rows::RECORD_WORDS;
 
-// A record as a host holds it: its path is the first `depth` of the bytes.
+// A record as a host holds it: its path is the first `depth` of the bytes. In a C host it has 96 bytes and no padding.
+#[repr(C)]
 pub struct Record {
     pub capacity: u64,
     pub value: i64,

@@ -256,6 +256,27 @@ pub fn accepted_pick(s: Search, opened: usize) -> Picked
     }
 }
 
+// The search after a pick.
+pub fn search_of(p: Picked) -> Search
+    ensures { λ s. ⌜ s ≡ p .search ⌝ }
+{
+    p.search
+}
+
+// A pick's verdict.
+pub fn verdict_in(p: Picked) -> Verdict
+    ensures { λ v. ⌜ v ≡ p .verdict ⌝ }
+{
+    p.verdict
+}
+
+// How many records are open.
+pub fn opened_of(s: Search) -> usize
+    ensures { λ n. ⌜ n ≡ s .opened ⌝ }
+{
+    s.opened
+}
+
 // A start's answer. It asks of the list how many places it has, and nothing of what they hold.
 pub fn started_by(weights: &[u64], profits: &[u64], ask: Ask, bound: i64, places: usize) -> Started
     ensures { λ a. ⌜ a ≡ startedFrom (startAnswer (startRefusal (problemOf (now (weights .entry)) (now (profits .entry)) (ask .page) (ask .width)) places) bound) ⌝ }

@@ -68,7 +68,7 @@ fn larger(a: u64, b: u64) -> u64
 }
 
 // The largest capacity of the rows in places from .. count: from the last one down, as the definition does.
-pub fn merged_capacity(nodes: &[u64], list: &[usize], from: usize, count: usize) -> u64
+fn merged_capacity(nodes: &[u64], list: &[usize], from: usize, count: usize) -> u64
     requires { ⌜ Placed (now list) count (now nodes) × (from ≤ count) ⌝ }
     ensures { λ r. ⌜ CapacityMerged from count (now (list .entry)) (now (nodes .entry)) r ⌝ }
 {
@@ -82,7 +82,7 @@ pub fn merged_capacity(nodes: &[u64], list: &[usize], from: usize, count: usize)
 }
 
 // The first row in the first `keep` places with that capacity.
-pub fn twin_of(nodes: &[u64], list: &[usize], keep: usize, capacity: u64) -> Twin
+fn twin_of(nodes: &[u64], list: &[usize], keep: usize, capacity: u64) -> Twin
     requires { ⌜ Placed (now list) keep (now nodes) ⌝ }
     ensures { λ r. ⌜ TwinFound keep capacity (now (list .entry)) (now (nodes .entry)) r ⌝ }
 {

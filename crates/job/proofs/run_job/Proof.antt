@@ -39,12 +39,11 @@ use Rattle.records.specs.declared.Record.{Record}
 use Rattle.records.specs.Structs.{places}
 use Rattle.records.proofs.Entered.{AllTyped, enters}
 use Rattle.records.proofs.Record as T
-use Rattle.searches.specs.Places.{Place}
-use Rattle.searches.specs.Compile.{Lent}
+use Rattle.searches.specs.Pick.{Held}
 use Rattle.search.specs.declared.Picked.{Picked}
 use Rattle.search.proofs.Picked as P
 use Rattle.search.proofs.Picked.Laws as P′
-use Rattle.compile_records.specs.Queried.{lentOf}
+use Rattle.pick.specs.Picks.{heldIn}
 use Rattle.pick.proofs.Rows.{picked-makes, picked-typed}
 use Rattle.jobs.specs.Page.{answerOf}
 use Rattle.page_text.specs.declared.Output.{Output}
@@ -53,13 +52,13 @@ use Rattle.page_text.proofs.Output as O
 use Rattle.page_text.proofs.Output.Laws as O′
 use Rattle.job_text.specs.declared.ReadJob.{ReadJob}
 use Rattle.job_text.specs.Reads.{Reads}
-use Rattle.job_run.specs.Runs.{endingOf}
-use Rattle.job.specs.Answered.{runs, endingIf, Writable, Answers}
+use Rattle.job_run.specs.Runs.{endingOf, leftIn}
+use Rattle.job.specs.Answered.{runs, leftIf, Writable, Answers, Leaves}
 use Rattle.job_text.proofs.ReadJob as R
 use Rattle.job_text.proofs.ReadJob.Laws as R′
 use Rattle.job.proofs.Rows.{read-makes, read-typed, output-makes, output-typed}
 use Rattle.job.proofs.Steps.{writable}
-use Rattle.job.proofs.Answering.{answers}
+use Rattle.job.proofs.Answering.{answers, leaves}
 use Rattle.job_text.proofs.read as g
 use Rattle.job_text.proofs.read.Symbol as g-def
 use Rattle.job_text.proofs.read.Symbol.{name as #job-text·read}
@@ -115,6 +114,9 @@ sliceR = sliceTy refR
 abbrev Last : Type 0
 Last = Unit {0} × (List ℕ × (List ℕ × (List Record × (List Record × Unit {0}))))
 
+abbrev heldAt : Last → Held
+heldAt zs = heldIn (places (zs .1 .1 .1 .0)) (zs .1 .0) (zs .1 .1 .0) (places (zs .1 .1 .1 .1 .0))
+
 module _ {M : Type 1} (𝓤 : URA M) (H : Heap 𝓤) (A : Atoms 𝓤) (mem : Memory → SProp 𝓤) (run : Routine → Fun 𝓤) where
   abbrev ReadC : Contract 𝓤
   ReadC = tripleOf 𝓤 H A g.signature (g.spec 𝓤 H A mem run)
@@ -127,11 +129,8 @@ module _ {M : Type 1} (𝓤 : URA M) (H : Heap 𝓤) (A : Atoms 𝓤) (mem : Mem
 
 module _ {M : Type 1} (𝓤 : URA M) (H : Heap 𝓤) (A : Atoms 𝓤) (W : Given 𝓤 H A) (mem : Memory → SProp 𝓤) (run : Routine → Fun 𝓤) (κ₀ κ₁ κ₂ κ₃ κ₄ : Lft) (s₀ s₁ s₂ s₃ s₄ : Share) (text ns es : RefT (List ℕ)) (rs xs : RefT (List Record))
     (room₀ : Room u8 (length (text .now))) (room₁ : Room u64 (length (ns .now))) (room₂ : Room u64 (length (es .now))) (room₃ : Room T.the-row (length (rs .now))) (room₄ : Room T.the-row (length (xs .now))) where
-  abbrev lent : Lent
-  lent = lentOf (ns .now) (es .now) (places (xs .now))
-
-  abbrev list : List Place
-  list = places (rs .now)
+  abbrev held : Held
+  held = heldIn (places (rs .now)) (ns .now) (es .now) (places (xs .now))
 
   abbrev v₀ : Val
   v₀ = sliceVal (text .ptr) (length (text .now))
@@ -201,7 +200,7 @@ module _ {M : Type 1} (𝓤 : URA M) (H : Heap 𝓤) (A : Atoms 𝓤) (W : Given
     abbrev Lasted : Last → Fml
     Lasted zs = lasts k.ended (κ₁, (κ₂, (κ₃, (κ₄, tt)))) run-args zs
 
-    exits : (o : Output) (z : Val) (zs : Last) → Is O.the-row o (z ∷ []) → Answers (text .now) lent list o → ent 𝓤 (⋆ 𝓤 H A (tokens ∷ ‵ (Lasted zs) ∷ ‵ (flft κ₀ s₀) ∷ [])) (Post z)
+    exits : (o : Output) (z : Val) (zs : Last) → Is O.the-row o (z ∷ []) → Answers (text .now) (held .lent) (held .list) o × Leaves (text .now) held (heldAt zs) → ent 𝓤 (⋆ 𝓤 H A (tokens ∷ ‵ (Lasted zs) ∷ ‵ (flft κ₀ s₀) ∷ [])) (Post z)
     exits o z zs is e =
         qed W (tokens ∷ ‵ (Lasted zs) ∷ ‵ (flft κ₀ s₀) ∷ []) ∵ move ! (1 ∷ []) $ fsplit ! $ drop ! $
         fsplit ! $ fsplit ! $ move ! (1 ∷ []) $ feqL ! (λ as-long₁. move ! (1 ∷ []) $
@@ -297,10 +296,10 @@ module _ {M : Type 1} (𝓤 : URA M) (H : Heap 𝓤) (A : Atoms 𝓤) (W : Given
         Ran y zs = tokens ∷ ‵ (Lasted r x r-is zs) ∷ ‵ (flft κ₀ s₀) ∷ Lending (‵ (fat fullShare P′.mir l₇ 0 y) ∷ ‵ (fdies P′.mir l₇) ∷ ‵ (fat fullShare R′.mir l₆ 0 x) ∷ ‵ (fdies R′.mir l₆) ∷ Passed [])
 
         -- the run has ended, and its answer is written
-        writes : (p : Picked) (y : Val) (zs : Last) → Is P.the-row p (y ∷ []) → endingOf p ≡ endingIf (runs r) r lent list → ent 𝓤 (⋆ 𝓤 H A (Ran y zs)) (Wp 𝓤 H (𝓣 .C) (𝓣 .Λ) E pieces.t-11 (atReturn 𝓤 H E Post))
+        writes : (p : Picked) (y : Val) (zs : Last) → Is P.the-row p (y ∷ []) → leftIn p (heldAt zs) ≡ leftIf (runs r) r held → ent 𝓤 (⋆ 𝓤 H A (Ran y zs)) (Wp 𝓤 H (𝓣 .C) (𝓣 .Λ) E pieces.t-11 (atReturn 𝓤 H E Post))
         writes p y zs p-is e =
             qed W (Ran y zs) ∵ exec ! (𝓣 .C) (𝓣 .Λ) E pieces.t-11 (atRet E Post) $
-            nothing ! $ use1 W (raw (AnswerC 𝓤 H A mem run .pre (to-answer r x r-is p y p-is))) (goes-answer r x r-is p y p-is (writable r lent list p e)) $
+            nothing ! $ use1 W (raw (AnswerC 𝓤 H A mem run .pre (to-answer r x r-is p y p-is))) (goes-answer r x r-is p y p-is (writable r held p (heldAt zs) e)) $
             calls-at ! (fmOf 𝓤 H (W .laws) 𝓣) (AnswerC 𝓤 H A mem run) known-answer (to-answer r x r-is p y p-is) (and-then ! (load ! (from ! (stop !)) (look ! 22 refl)) (and-then ! (load ! (from ! (stop !)) (look ! 20 refl)) (no-more !))) (λ z.
             use1 W (later (some (λ (o : Output). (‵ ftrue ⊛ ‵ (O.the-row .own o (z ∷ []))) ⊛ raw (ensured 𝓤 H A h.ended (h.clauses 𝓤 H A mem run) tt (r, (p, tt)) tt o)))) (id⊢ 𝓤 _) $ await ! tt $ pick ! (λ o.
             split ! $ move ! (1 ∷ []) $ use1 W (raw (fact 𝓤 (Says (answerOf (r .count) (endingOf p)) 671 o))) (told-answer r x r-is p y p-is o) $ heard ! (Says (answerOf (r .count) (endingOf p)) 671 o) (λ said. split ! $ drop ! $
@@ -309,7 +308,7 @@ module _ {M : Type 1} (𝓤 : URA M) (H : Heap 𝓤) (A : Atoms 𝓤) (W : Given
             returns ! (look ! 33 refl) $ forget ! 19 refl $ forget ! 21 refl $ forget ! 23 refl $ forget ! 25 refl $ forget ! 27 refl $ forget ! 29 refl $ forget ! 31 refl $ forget ! 33 refl $
             move ! (33 ∷ 34 ∷ []) $ free1 ! $ move ! (31 ∷ 32 ∷ []) $ free1 ! $ move ! (29 ∷ 30 ∷ []) $ free1 ! $ move ! (27 ∷ 28 ∷ []) $ free1 ! $ move ! (25 ∷ 26 ∷ []) $ free1 ! $ move ! (23 ∷ 24 ∷ []) $ free1 ! $ move ! (21 ∷ 22 ∷ []) $ free1 ! $ move ! (19 ∷ 20 ∷ []) $ free1 ! $
             move ! (17 ∷ 18 ∷ []) $ free1 ! $ move ! (15 ∷ 16 ∷ []) $ free1 ! $ move ! (13 ∷ 14 ∷ []) $ free1 ! $ move ! (11 ∷ 12 ∷ []) $ free1 ! $ move ! (9 ∷ 10 ∷ []) $ free1 ! $ move ! (7 ∷ 8 ∷ []) $ free1 ! $ move ! (5 ∷ 6 ∷ []) $ free1 ! $ move ! (3 ∷ 4 ∷ []) $ free1 ! $ free0 ! $
-            by ! (exits r x r-is o z zs is (answers (text .now) lent list r p o read e said))))))
+            by ! (exits r x r-is o z zs is (answers (text .now) held r p (heldAt zs) read e o said, leaves (text .now) held r p (heldAt zs) read e))))))
 
         module _ (known-run : Triple 𝓤 (𝓣 .C #job·run-if) (RunC 𝓤 H A mem run)) where
           abbrev Ready : List (Item 𝓤)
@@ -321,8 +320,8 @@ module _ {M : Type 1} (𝓤 : URA M) (H : Heap 𝓤) (A : Atoms 𝓤) (W : Given
               move ! (2 ∷ 1 ∷ []) $ use2 W (raw (RunC 𝓤 H A mem run .pre (to-run r x r-is))) (goes-run r x r-is) $
               calls-at ! (fmOf 𝓤 H (W .laws) 𝓣) (RunC 𝓤 H A mem run) known-run (to-run r x r-is) (and-then ! (load ! (from ! (stop !)) (look ! 20 refl)) (and-then ! (load ! (from ! (stop !)) (look ! 14 refl)) (and-then ! (load ! (from ! (stop !)) (look ! 10 refl)) (and-then ! (load ! (from ! (stop !)) (look ! 6 refl)) (and-then ! (load ! (from ! (stop !)) (look ! 2 refl)) (no-more !)))))) (λ y.
               use1 W (later (some (λ (p : Picked). (tokens ⊛ ‵ (P.the-row .own p (y ∷ []))) ⊛ raw (ensured 𝓤 H A k.ended (k.clauses 𝓤 H A mem run) (κ₁, (κ₂, (κ₃, (κ₄, tt)))) (run-args r x r-is) tt p)))) (id⊢ 𝓤 _) $ await ! tt $ pick ! (λ p.
-              split ! $ move ! (1 ∷ []) $ use1 W (some (λ (zs : Last). ‵ (Lasted r x r-is zs) ⊛ raw (fact 𝓤 (endingOf p ≡ endingIf (runs r) r lent list)))) (id⊢ 𝓤 _) $ pick ! (λ zs.
-              split ! $ move ! (1 ∷ []) $ heard ! (endingOf p ≡ endingIf (runs r) r lent list) (λ e.
+              split ! $ move ! (1 ∷ []) $ use1 W (some (λ (zs : Last). ‵ (Lasted r x r-is zs) ⊛ raw (fact 𝓤 (leftIn p (heldAt zs) ≡ leftIf (runs r) r held)))) (id⊢ 𝓤 _) $ pick ! (λ zs.
+              split ! $ move ! (1 ∷ []) $ heard ! (leftIn p (heldAt zs) ≡ leftIf (runs r) r held) (λ e.
               move ! (1 ∷ []) $ split ! $ move ! (1 ∷ []) $ facts ! P.the-row (Is P.the-row) (shows 𝓤 H A P.the-row) p (y ∷ []) (λ p-is.
               -- [the tokens; the last lists; the text's token; _15; …]
               land ! (from ! (stop !)) (init ! 19 refl (picked-typed 𝓤 H A W p y p-is)) $ forget ! 3 refl $ forget ! 5 refl $ forget ! 7 refl $ forget ! 9 refl $ forget ! 11 refl $ forget ! 13 refl $ forget ! 15 refl $ forget ! 17 refl $
@@ -378,8 +377,8 @@ module _ {M : Type 1} (𝓤 : URA M) (H : Heap 𝓤) (A : Atoms 𝓤) (W : Given
   walk : (𝓣 : Tables 𝓤 H) → Triple 𝓤 (𝓣 .C #job-text·read) (ReadC 𝓤 H A mem run) → Triple 𝓤 (𝓣 .C #job·run-if) (RunC 𝓤 H A mem run) → Triple 𝓤 (𝓣 .C #job·answer-of) (AnswerC 𝓤 H A mem run)
       → ent 𝓤 (onEntry 𝓤 H A f.signature (κ₀, (κ₁, (κ₂, (κ₃, (κ₄, tt))))) (s₀, (s₁, (s₂, (s₃, (s₄, tt))))) args vals) (WpFn 𝓤 H (𝓣 .C) (𝓣 .Λ) code.function (v₀ ∷ v₁ ∷ v₂ ∷ v₃ ∷ v₄ ∷ []) Post)
   walk 𝓣 known-read known-run known-answer =
-      enters 𝓤 H A (𝓣 .C) (𝓣 .Λ) O′.mir passed-in (R′.mir ∷ P′.mir ∷ ref ∷ slice ∷ ref ∷ slice ∷ refR ∷ sliceR ∷ refR ∷ sliceR ∷ []) pieces.t-1 (all-tokens ∷ ‵ Owns ∷ []) Post 5 [] 5 passed-typed
-      (λ b bs cs. reads 𝓣 b (bs .0) (bs .1 .0) (bs .1 .1 .0) (bs .1 .1 .1 .0) (bs .1 .1 .1 .1 .0) (cs .0) (cs .1 .0) (cs .1 .1 .0) (cs .1 .1 .1 .0) (cs .1 .1 .1 .1 .0) (cs .1 .1 .1 .1 .1 .0) (cs .1 .1 .1 .1 .1 .1 .0) (cs .1 .1 .1 .1 .1 .1 .1 .0) (cs .1 .1 .1 .1 .1 .1 .1 .1 .0) (cs .1 .1 .1 .1 .1 .1 .1 .1 .1 .0) known-answer known-read known-run)
+      enters W (𝓣 .C) (𝓣 .Λ) O′.mir passed-in (R′.mir ∷ P′.mir ∷ ref ∷ slice ∷ ref ∷ slice ∷ refR ∷ sliceR ∷ refR ∷ sliceR ∷ []) pieces.t-1 (all-tokens ∷ ‵ Owns ∷ []) Post 5 [] 5 passed-typed
+      (λ b bs. reads 𝓣 b (bs .0) (bs .1 .0) (bs .1 .1 .0) (bs .1 .1 .1 .0) (bs .1 .1 .1 .1 .0) (bs .1 .1 .1 .1 .1 .0) (bs .1 .1 .1 .1 .1 .1 .0) (bs .1 .1 .1 .1 .1 .1 .1 .0) (bs .1 .1 .1 .1 .1 .1 .1 .1 .0) (bs .1 .1 .1 .1 .1 .1 .1 .1 .1 .0) (bs .1 .1 .1 .1 .1 .1 .1 .1 .1 .1 .0) (bs .1 .1 .1 .1 .1 .1 .1 .1 .1 .1 .1 .0) (bs .1 .1 .1 .1 .1 .1 .1 .1 .1 .1 .1 .1 .0) (bs .1 .1 .1 .1 .1 .1 .1 .1 .1 .1 .1 .1 .1 .0) (bs .1 .1 .1 .1 .1 .1 .1 .1 .1 .1 .1 .1 .1 .1 .0) known-answer known-read known-run)
 
 module _ {M : Type 1} (𝓤 : URA M) (H : Heap 𝓤) (A : Atoms 𝓤) (W : Given 𝓤 H A) (mem : Memory → SProp 𝓤) (run : Routine → Fun 𝓤) where
   run-job-walks : (𝓣 : Tables 𝓤 H) → Triple 𝓤 (𝓣 .C #job-text·read) (ReadC 𝓤 H A mem run) → Triple 𝓤 (𝓣 .C #job·run-if) (RunC 𝓤 H A mem run) → Triple 𝓤 (𝓣 .C #job·answer-of) (AnswerC 𝓤 H A mem run)

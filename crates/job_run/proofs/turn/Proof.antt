@@ -35,12 +35,12 @@ use Rattle.search.proofs.Ask as K
 use Rattle.search.proofs.Ask.Laws as K′
 use Rattle.search.proofs.Picked as P
 use Rattle.search.proofs.Picked.Laws as P′
-use Rattle.job_run.proofs.search_of.Symbol as search-def
-use Rattle.job_run.proofs.search_of.Symbol.{name as #job-run·search-of}
-use Rattle.job_run.proofs.search_of.Met as search-thm
-use Rattle.job_run.proofs.opened_of.Symbol as opened-def
-use Rattle.job_run.proofs.opened_of.Symbol.{name as #job-run·opened-of}
-use Rattle.job_run.proofs.opened_of.Met as opened-thm
+use Rattle.search.proofs.search_of.Symbol as search-def
+use Rattle.search.proofs.search_of.Symbol.{name as #search·search-of}
+use Rattle.search.proofs.search_of.Met as search-thm
+use Rattle.search.proofs.opened_of.Symbol as opened-def
+use Rattle.search.proofs.opened_of.Symbol.{name as #search·opened-of}
+use Rattle.search.proofs.opened_of.Met as opened-thm
 use Rattle.job_run.proofs.largest.Symbol as largest-def
 use Rattle.job_run.proofs.largest.Symbol.{name as #job-run·largest}
 use Rattle.job_run.proofs.largest.Met as largest-thm
@@ -60,8 +60,8 @@ mod Ends
 mod Walk
 
 module _ {M : Type 1} (𝓤 : URA M) (H : Heap 𝓤) (A : Atoms 𝓤) (W : Given 𝓤 H A) (mem : Memory → SProp 𝓤) (run : Routine → Fun 𝓤) (𝓣 : Tables 𝓤 H)
-    (known-search : Triple 𝓤 (𝓣 .C #job-run·search-of) (SearchC 𝓤 H A mem run))
-    (known-opened : Triple 𝓤 (𝓣 .C #job-run·opened-of) (OpenedC 𝓤 H A mem run))
+    (known-search : Triple 𝓤 (𝓣 .C #search·search-of) (SearchC 𝓤 H A mem run))
+    (known-opened : Triple 𝓤 (𝓣 .C #search·opened-of) (OpenedC 𝓤 H A mem run))
     (known-largest : Triple 𝓤 (𝓣 .C #job-run·largest) (LargestC 𝓤 H A mem run))
     (known-pick : Triple 𝓤 (𝓣 .C #pick·pick) (PickC 𝓤 H A mem run)) where
   walk : (p : Passed) (c : Picked) (cv : Val) (ci : Is P.the-row c (cv ∷ [])) → c .search .opened ≤ length (p .list-now) → ent 𝓤 (onEntry 𝓤 H A f.signature (lfts p c cv) (parts p c cv) (args p c cv) (vals p c cv)) (WpFn 𝓤 H (𝓣 .C) (𝓣 .Λ) code.function (weights-val p ∷ profits-val p ∷ nodes-val p ∷ edges-val p ∷ list-val p ∷ scratch-val p ∷ p .ask-val ∷ cv ∷ []) (Post 𝓤 H A mem run p c cv ci))
@@ -133,7 +133,7 @@ turn-spec 𝓤 H 𝓜 𝓖 𝓡 =
     enters 𝓤 H (tripleOf 𝓤 H (𝓖 .A) f.signature (f.spec 𝓤 H (𝓖 .A) (𝓜 .mem) (𝓡 .run)))
     (tables 𝓤 H 𝓜 𝓡 code.env .C) (tables 𝓤 H 𝓜 𝓡 code.env .Λ) #job-run·turn code.function (code.unfolded 𝓤 H 𝓜 𝓡)
     (turn-meets 𝓤 H (𝓖 .A) (givenOf 𝓤 H 𝓜 𝓖) (𝓜 .mem) (𝓡 .run) (tablesOf 𝓤 H 𝓜 (tables 𝓤 H 𝓜 𝓡 code.env))
-    (cited 𝓤 H (SearchC 𝓤 H (𝓖 .A) (𝓜 .mem) (𝓡 .run)) 𝓜 𝓡 code.env #job-run·search-of search-def.routine code.calls-job-run·search-of (search-thm.met 𝓤 H 𝓜 𝓖 𝓡))
-    (cited 𝓤 H (OpenedC 𝓤 H (𝓖 .A) (𝓜 .mem) (𝓡 .run)) 𝓜 𝓡 code.env #job-run·opened-of opened-def.routine code.calls-job-run·opened-of (opened-thm.met 𝓤 H 𝓜 𝓖 𝓡))
+    (cited 𝓤 H (SearchC 𝓤 H (𝓖 .A) (𝓜 .mem) (𝓡 .run)) 𝓜 𝓡 code.env #search·search-of search-def.routine code.calls-search·search-of (search-thm.met 𝓤 H 𝓜 𝓖 𝓡))
+    (cited 𝓤 H (OpenedC 𝓤 H (𝓖 .A) (𝓜 .mem) (𝓡 .run)) 𝓜 𝓡 code.env #search·opened-of opened-def.routine code.calls-search·opened-of (opened-thm.met 𝓤 H 𝓜 𝓖 𝓡))
     (cited 𝓤 H (LargestC 𝓤 H (𝓖 .A) (𝓜 .mem) (𝓡 .run)) 𝓜 𝓡 code.env #job-run·largest largest-def.routine code.calls-job-run·largest (largest-thm.met 𝓤 H 𝓜 𝓖 𝓡))
     (cited 𝓤 H (PickC 𝓤 H (𝓖 .A) (𝓜 .mem) (𝓡 .run)) 𝓜 𝓡 code.env #pick·pick pick-def.routine code.calls-pick·pick (pick-thm.met 𝓤 H 𝓜 𝓖 𝓡)))

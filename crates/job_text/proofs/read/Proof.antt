@@ -23,7 +23,7 @@ shared-slice-read-step : tie.Need-shared-slice-read-step Inv-loop μ-loop
 shared-slice-read-step c = search needs
 
 step-requires : tie.Need-step-requires Inv-loop μ-loop
-step-requires c κs = c .before .before .loop .inv .1 .few
+step-requires c κs = search needs
 
 add-i : tie.Need-add-i Inv-loop μ-loop
 add-i c = search needs
@@ -32,13 +32,13 @@ loop-less : tie.Need-loop-less Inv-loop μ-loop
 loop-less c = search needs
 
 loop-again : tie.Need-loop-again Inv-loop μ-loop
-loop-again c = (search needs, read-turn _ _ _ (c .before .before .loop-test .taken) (c .step .ensures _ (c .before .before .before .loop .inv .1)))
+loop-again c = (search needs, read-turn _ _ _ (c .before .before .loop-test .taken) (c .step .ensures .1 _ (c .before .before .before .loop .inv .1)))
 
 ended-requires : tie.Need-ended-requires Inv-loop μ-loop
 ended-requires c κs = search needs
 
 returns : tie.Need-returns Inv-loop μ-loop
-returns c = c .ended .ensures _ (read-done _ _ _ (c .before .loop-test .left) (c .before .before .loop .inv .1))
+returns c = c .ended .ensures .1 _ (read-done _ _ _ (c .before .loop-test .left) (c .before .before .loop .inv .1))
 
 pub read-spec : {M : Type 1} → statement M
 read-spec =

@@ -35,18 +35,18 @@ use Rattle.search.proofs.Ask.Laws as K′
 use Rattle.records.proofs.get.Symbol as get-def
 use Rattle.records.proofs.get.Symbol.{name as #records·get}
 use Rattle.records.proofs.get.Met as get-thm
-use Rattle.pick.proofs.verdict_of.Symbol as verdict-def
-use Rattle.pick.proofs.verdict_of.Symbol.{name as #pick·verdict-of}
-use Rattle.pick.proofs.verdict_of.Met as verdict-thm
-use Rattle.pick.proofs.query_of.Symbol as query-def
-use Rattle.pick.proofs.query_of.Symbol.{name as #pick·query-of}
-use Rattle.pick.proofs.query_of.Met as query-thm
+use Rattle.pick_steps.proofs.verdict_of.Symbol as verdict-def
+use Rattle.pick_steps.proofs.verdict_of.Symbol.{name as #pick-steps·verdict-of}
+use Rattle.pick_steps.proofs.verdict_of.Met as verdict-thm
+use Rattle.pick_steps.proofs.query_of.Symbol as query-def
+use Rattle.pick_steps.proofs.query_of.Symbol.{name as #pick-steps·query-of}
+use Rattle.pick_steps.proofs.query_of.Met as query-thm
 use Rattle.pick.proofs.compile_if.Symbol as compile-def
 use Rattle.pick.proofs.compile_if.Symbol.{name as #pick·compile-if}
 use Rattle.pick.proofs.compile_if.Met as compile-thm
-use Rattle.pick.proofs.tallied.Symbol as tallied-def
-use Rattle.pick.proofs.tallied.Symbol.{name as #pick·tallied}
-use Rattle.pick.proofs.tallied.Met as tallied-thm
+use Rattle.pick_steps.proofs.tallied.Symbol as tallied-def
+use Rattle.pick_steps.proofs.tallied.Symbol.{name as #pick-steps·tallied}
+use Rattle.pick_steps.proofs.tallied.Met as tallied-thm
 use Rattle.pick.proofs.settled.Symbol as settled-def
 use Rattle.pick.proofs.settled.Symbol.{name as #pick·settled}
 use Rattle.pick.proofs.settled.Met as settled-thm
@@ -63,10 +63,10 @@ mod Walk
 
 module _ {M : Type 1} (𝓤 : URA M) (H : Heap 𝓤) (A : Atoms 𝓤) (W : Given 𝓤 H A) (mem : Memory → SProp 𝓤) (run : Routine → Fun 𝓤) (𝓣 : Tables 𝓤 H)
     (known-get : Triple 𝓤 (𝓣 .C #records·get) (Get 𝓤 H A mem run))
-    (known-verdict : Triple 𝓤 (𝓣 .C #pick·verdict-of) (Judge 𝓤 H A mem run))
-    (known-query : Triple 𝓤 (𝓣 .C #pick·query-of) (Queried 𝓤 H A mem run))
+    (known-verdict : Triple 𝓤 (𝓣 .C #pick-steps·verdict-of) (Judge 𝓤 H A mem run))
+    (known-query : Triple 𝓤 (𝓣 .C #pick-steps·query-of) (Queried 𝓤 H A mem run))
     (known-compile : Triple 𝓤 (𝓣 .C #pick·compile-if) (CompileIf 𝓤 H A mem run))
-    (known-tallied : Triple 𝓤 (𝓣 .C #pick·tallied) (Tallied 𝓤 H A mem run))
+    (known-tallied : Triple 𝓤 (𝓣 .C #pick-steps·tallied) (Tallied 𝓤 H A mem run))
     (known-settled : Triple 𝓤 (𝓣 .C #pick·settled) (Settled 𝓤 H A mem run)) where
   walk : (p : Passed) → ent 𝓤 (onEntry 𝓤 H A f.signature (lfts p) (parts p) (args p) (vals p)) (WpFn 𝓤 H (𝓣 .C) (𝓣 .Λ) code.function (weights-val p ∷ profits-val p ∷ nodes-val p ∷ edges-val p ∷ list-val p ∷ scratch-val p ∷ p .ask-val ∷ vint w64 (p .place) ∷ p .search-val ∷ []) (Post 𝓤 H A mem run p))
   walk p =
@@ -138,8 +138,8 @@ pick-spec 𝓤 H 𝓜 𝓖 𝓡 =
     (tables 𝓤 H 𝓜 𝓡 code.env .C) (tables 𝓤 H 𝓜 𝓡 code.env .Λ) #pick·pick code.function (code.unfolded 𝓤 H 𝓜 𝓡)
     (pick-meets 𝓤 H (𝓖 .A) (givenOf 𝓤 H 𝓜 𝓖) (𝓜 .mem) (𝓡 .run) (tablesOf 𝓤 H 𝓜 (tables 𝓤 H 𝓜 𝓡 code.env))
     (cited 𝓤 H (Get 𝓤 H (𝓖 .A) (𝓜 .mem) (𝓡 .run)) 𝓜 𝓡 code.env #records·get get-def.routine code.calls-records·get (get-thm.met 𝓤 H 𝓜 𝓖 𝓡))
-    (cited 𝓤 H (Judge 𝓤 H (𝓖 .A) (𝓜 .mem) (𝓡 .run)) 𝓜 𝓡 code.env #pick·verdict-of verdict-def.routine code.calls-pick·verdict-of (verdict-thm.met 𝓤 H 𝓜 𝓖 𝓡))
-    (cited 𝓤 H (Queried 𝓤 H (𝓖 .A) (𝓜 .mem) (𝓡 .run)) 𝓜 𝓡 code.env #pick·query-of query-def.routine code.calls-pick·query-of (query-thm.met 𝓤 H 𝓜 𝓖 𝓡))
+    (cited 𝓤 H (Judge 𝓤 H (𝓖 .A) (𝓜 .mem) (𝓡 .run)) 𝓜 𝓡 code.env #pick-steps·verdict-of verdict-def.routine code.calls-pick-steps·verdict-of (verdict-thm.met 𝓤 H 𝓜 𝓖 𝓡))
+    (cited 𝓤 H (Queried 𝓤 H (𝓖 .A) (𝓜 .mem) (𝓡 .run)) 𝓜 𝓡 code.env #pick-steps·query-of query-def.routine code.calls-pick-steps·query-of (query-thm.met 𝓤 H 𝓜 𝓖 𝓡))
     (cited 𝓤 H (CompileIf 𝓤 H (𝓖 .A) (𝓜 .mem) (𝓡 .run)) 𝓜 𝓡 code.env #pick·compile-if compile-def.routine code.calls-pick·compile-if (compile-thm.met 𝓤 H 𝓜 𝓖 𝓡))
-    (cited 𝓤 H (Tallied 𝓤 H (𝓖 .A) (𝓜 .mem) (𝓡 .run)) 𝓜 𝓡 code.env #pick·tallied tallied-def.routine code.calls-pick·tallied (tallied-thm.met 𝓤 H 𝓜 𝓖 𝓡))
+    (cited 𝓤 H (Tallied 𝓤 H (𝓖 .A) (𝓜 .mem) (𝓡 .run)) 𝓜 𝓡 code.env #pick-steps·tallied tallied-def.routine code.calls-pick-steps·tallied (tallied-thm.met 𝓤 H 𝓜 𝓖 𝓡))
     (cited 𝓤 H (Settled 𝓤 H (𝓖 .A) (𝓜 .mem) (𝓡 .run)) 𝓜 𝓡 code.env #pick·settled settled-def.routine code.calls-pick·settled (settled-thm.met 𝓤 H 𝓜 𝓖 𝓡)))

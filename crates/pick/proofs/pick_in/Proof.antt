@@ -35,12 +35,12 @@ use Rattle.search.proofs.Ask.Laws as K′
 use Rattle.pick.proofs.pick.Symbol as pick-def
 use Rattle.pick.proofs.pick.Symbol.{name as #pick·pick}
 use Rattle.pick.proofs.pick.Met as pick-thm
-use Rattle.pick.proofs.search_of.Symbol as search-def
-use Rattle.pick.proofs.search_of.Symbol.{name as #pick·search-of}
-use Rattle.pick.proofs.search_of.Met as search-thm
-use Rattle.pick.proofs.verdict_in.Symbol as verdict-def
-use Rattle.pick.proofs.verdict_in.Symbol.{name as #pick·verdict-in}
-use Rattle.pick.proofs.verdict_in.Met as verdict-thm
+use Rattle.search.proofs.search_of.Symbol as search-def
+use Rattle.search.proofs.search_of.Symbol.{name as #search·search-of}
+use Rattle.search.proofs.search_of.Met as search-thm
+use Rattle.search.proofs.verdict_in.Symbol as verdict-def
+use Rattle.search.proofs.verdict_in.Symbol.{name as #search·verdict-in}
+use Rattle.search.proofs.verdict_in.Met as verdict-thm
 use Rattle.pick.proofs.pick_in.Key.{name as #pick·pick-in}
 use Rattle.pick.proofs.pick_in as f
 use Rattle.pick.proofs.pick_in.Statement as stated
@@ -54,8 +54,8 @@ mod Walk
 
 module _ {M : Type 1} (𝓤 : URA M) (H : Heap 𝓤) (A : Atoms 𝓤) (W : Given 𝓤 H A) (mem : Memory → SProp 𝓤) (run : Routine → Fun 𝓤) (𝓣 : Tables 𝓤 H)
     (known-pick : Triple 𝓤 (𝓣 .C #pick·pick) (PickC 𝓤 H A mem run))
-    (known-search : Triple 𝓤 (𝓣 .C #pick·search-of) (SearchC 𝓤 H A mem run))
-    (known-verdict : Triple 𝓤 (𝓣 .C #pick·verdict-in) (VerdictC 𝓤 H A mem run)) where
+    (known-search : Triple 𝓤 (𝓣 .C #search·search-of) (SearchC 𝓤 H A mem run))
+    (known-verdict : Triple 𝓤 (𝓣 .C #search·verdict-in) (VerdictC 𝓤 H A mem run)) where
   walk : (p : Passed) → ent 𝓤 (onEntry 𝓤 H A f.signature (lfts p) (parts p) (args p) (vals p)) (WpFn 𝓤 H (𝓣 .C) (𝓣 .Λ) code.function (weights-val p ∷ profits-val p ∷ nodes-val p ∷ edges-val p ∷ list-val p ∷ scratch-val p ∷ p .ask-val ∷ vint w64 (p .place) ∷ vptr (p .block) (p .offset) ∷ []) (Post 𝓤 H A mem run p))
   walk p =
       qed W ((‵ (flft (p .κ₀) (p .q₀)) ⊛ (‵ (flft (p .κ₁) (p .q₁)) ⊛ (‵ (flft (p .κ₂) (p .q₂)) ⊛ (‵ (flft (p .κ₃) (p .q₃)) ⊛ (‵ (flft (p .κ₄) (p .q₄)) ⊛ (‵ (flft (p .κ₅) (p .q₅)) ⊛ (‵ (flft (p .κ₆) (p .q₆)) ⊛ ‵ ftrue))))))) ∷ ‵ (owns (ShrSlice (named 0) (p .κ₀) u64 ∷ ShrSlice (named 1) (p .κ₁) u64 ∷ MutSlice (named 2) (p .κ₂) u64 ∷ MutSlice (named 3) (p .κ₃) u64 ∷ MutSlice (named 4) (p .κ₄) T.the-row ∷ MutSlice (named 5) (p .κ₅) T.the-row ∷ K.the-row ∷ usize ∷ MutRef (named 6) (p .κ₆) S.the-row ∷ []) (args p) (vals p)) ∷ []) ∵
@@ -123,5 +123,5 @@ pick-in-spec 𝓤 H 𝓜 𝓖 𝓡 =
     (tables 𝓤 H 𝓜 𝓡 code.env .C) (tables 𝓤 H 𝓜 𝓡 code.env .Λ) #pick·pick-in code.function (code.unfolded 𝓤 H 𝓜 𝓡)
     (pick-in-meets 𝓤 H (𝓖 .A) (givenOf 𝓤 H 𝓜 𝓖) (𝓜 .mem) (𝓡 .run) (tablesOf 𝓤 H 𝓜 (tables 𝓤 H 𝓜 𝓡 code.env))
     (cited 𝓤 H (PickC 𝓤 H (𝓖 .A) (𝓜 .mem) (𝓡 .run)) 𝓜 𝓡 code.env #pick·pick pick-def.routine code.calls-pick·pick (pick-thm.met 𝓤 H 𝓜 𝓖 𝓡))
-    (cited 𝓤 H (SearchC 𝓤 H (𝓖 .A) (𝓜 .mem) (𝓡 .run)) 𝓜 𝓡 code.env #pick·search-of search-def.routine code.calls-pick·search-of (search-thm.met 𝓤 H 𝓜 𝓖 𝓡))
-    (cited 𝓤 H (VerdictC 𝓤 H (𝓖 .A) (𝓜 .mem) (𝓡 .run)) 𝓜 𝓡 code.env #pick·verdict-in verdict-def.routine code.calls-pick·verdict-in (verdict-thm.met 𝓤 H 𝓜 𝓖 𝓡)))
+    (cited 𝓤 H (SearchC 𝓤 H (𝓖 .A) (𝓜 .mem) (𝓡 .run)) 𝓜 𝓡 code.env #search·search-of search-def.routine code.calls-search·search-of (search-thm.met 𝓤 H 𝓜 𝓖 𝓡))
+    (cited 𝓤 H (VerdictC 𝓤 H (𝓖 .A) (𝓜 .mem) (𝓡 .run)) 𝓜 𝓡 code.env #search·verdict-in verdict-def.routine code.calls-search·verdict-in (verdict-thm.met 𝓤 H 𝓜 𝓖 𝓡)))

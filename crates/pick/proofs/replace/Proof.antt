@@ -1,7 +1,6 @@
 -- `replace` meets its contract, a walk by hand: where it is wanted, the list is lent again for the call that removes a record, and once more for the call that appends others.
 use mathlib.Core.Path.{_≡_, refl, sym, ap, subst, _∙_}
-use mathlib.Core.Bool.{Bool, true, false, not}
-use lib.Dec.{T as Holds}
+use mathlib.Core.Bool.{Bool, true}
 use Prim.Native.Nat.{ℕ, _+_, _-_, _<_, _≤_, _^_}
 use native.Mathlib.Omega.{arith}
 use mathlib.Core.List.{[], _∷_, List}
@@ -57,6 +56,7 @@ use Rattle.records.proofs.append_above.Met as h-thm
 use Rattle.searches.specs.Places.{Place}
 use Rattle.searches.specs.Search.{aboveBest}
 use Rattle.pick.specs.Settled.{Replaceable, replaceIf}
+use Rattle.records.proofs.Branches.{is-true, is-false}
 use Rattle.records.proofs.Again.{LentAgain, lends-again, comes-back}
 use Rattle.pick.proofs.Replacing.{removable, appendable, replaced}
 use Rattle.pick.proofs.replace.Key.{name as #pick·replace}
@@ -83,14 +83,6 @@ ref = tyRef erased mut (pointee (T.the-row .written))
 
 abbrev slice : Ty
 slice = sliceTy ref
-
-is-true : (t : Bool) → Holds t → t ≡ true
-is-true true h = refl
-is-true false h = absurd h
-
-is-false : (t : Bool) → Holds (not t) → t ≡ false
-is-false true h = absurd h
-is-false false h = refl
 
 module _ {M : Type 1} (𝓤 : URA M) (H : Heap 𝓤) (A : Atoms 𝓤) (mem : Memory → SProp 𝓤) (run : Routine → Fun 𝓤) where
   abbrev Remove : Contract 𝓤

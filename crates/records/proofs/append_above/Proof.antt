@@ -1,13 +1,12 @@
 -- `records::append_above` meets its contract, a walk by hand: the list is open and the source is looked into over the whole loop; each turn asks `above` of one record and stores it or passes over it.
 use mathlib.Core.Path.{_≡_, refl, sym, ap, subst, _∙_}
-use mathlib.Core.Bool.{Bool, true, false, not}
+use mathlib.Core.Bool.{Bool, true, false}
 use mathlib.Core.Logic.{_⊎_, inl, inr}
 use Prim.Native.Nat.{ℕ, _<_, _≤_, _^_, _*_, _+_, _-_}
 use native.Mathlib.Omega.{arith}
 use native.Mathlib.Nat.{eq-or-lt-of-le}
 use mathlib.Core.List.{[], _∷_, List}
 use lib.IntN.{ℤ}
-use lib.Dec.{T}
 use lib.ListN.{length, getD, set}
 use lib.Signed.{ltZ}
 use borrow.Author.Tests.{lt-ltb, le-ltb}
@@ -52,6 +51,7 @@ use denote.Exit.{yes}
 use denote.Signature.{plain}
 use Rattle.records.specs.declared.Record.{Record}
 use Rattle.records.specs.Structs.{noRecord}
+use Rattle.records.proofs.Branches.{is-true, is-false}
 use Rattle.records.proofs.Chosen.{aboveOf, After, at-first, has-room, stored, passed}
 use Rattle.records.proofs.Turns as turns
 use Rattle.records.proofs.Turns.{value-is}
@@ -82,14 +82,6 @@ shared = sliceTy (tyRef (named 1) imm (pointee (T.the-row .written)))
 -- what is left of a turn behind the branch: j goes up by one
 abbrev step-j : Body
 step-j = assign (place 7 []) (op2 (add unsigned) (copy (place 7 [])) (int w64 1))
-
-is-true : (t : Bool) → T t → t ≡ true
-is-true true h = refl
-is-true false h = absurd h
-
-is-false : (t : Bool) → T (not t) → t ≡ false
-is-false true h = absurd h
-is-false false h = refl
 
 module _ {M : Type 1} (𝓤 : URA M) (H : Heap 𝓤) (A : Atoms 𝓤) (mem : Memory → SProp 𝓤) (run : Routine → Fun 𝓤) where
   abbrev Above : Contract 𝓤

@@ -1,7 +1,6 @@
 -- `search::put_first` meets its contract, a walk by hand: the list's borrow is opened, a wanted record goes into the first place of its row, and the borrow is closed at the list that is had then.
 use mathlib.Core.Path.{_≡_, refl, sym, ap, subst}
-use mathlib.Core.Bool.{Bool, true, false, not}
-use lib.Dec.{T as Holds}
+use mathlib.Core.Bool.{Bool, true}
 use Prim.Native.Nat.{ℕ, _<_}
 use mathlib.Core.List.{[], _∷_, List}
 use lib.ListN.{length, set, length-set}
@@ -41,6 +40,7 @@ use denote.Exit.{yes}
 use denote.Signature.{plain}
 use Rattle.records.specs.declared.Record.{Record}
 use Rattle.search.specs.Begins.{putIf}
+use Rattle.records.proofs.Branches.{is-true, is-false}
 use Rattle.records.proofs.Record as T
 use Rattle.records.proofs.Record.Laws as T′
 use Rattle.search.proofs.put_first.Key.{name as #search·put-first}
@@ -57,14 +57,6 @@ slice = sliceTy (tyRef (named 0) mut (pointee (T.the-row .written)))
 -- what is left behind the branch
 abbrev tail : Body
 tail = seq (assign (place 0 []) (rvOpd opdUnit)) return
-
-is-true : (t : Bool) → Holds t → t ≡ true
-is-true true h = refl
-is-true false h = absurd h
-
-is-false : (t : Bool) → Holds (not t) → t ≡ false
-is-false true h = absurd h
-is-false false h = refl
 
 module _ {M : Type 1} (𝓤 : URA M) (H : Heap 𝓤) (A : Atoms 𝓤) (W : Given 𝓤 H A) (mem : Memory → SProp 𝓤) (run : Routine → Fun 𝓤) (κ : Lft) (q : Share) (b o : ℕ) (γ : GName) (ys : List Record) (t : Bool) (r : Record) (r-is : Is T.the-row r (LL.vals T.the-type T′.the-laws r)) where
   abbrev lent : List Record → RefT (List Record)

@@ -36,19 +36,18 @@ use Rattle.cutset.specs.Whole.{kindOf}
 use Rattle.records.specs.declared.Record.{Record}
 use Rattle.records.specs.Structs.{places}
 use Rattle.records.proofs.Record as T
-use Rattle.searches.specs.Places.{Place}
-use Rattle.searches.specs.Compile.{Lent}
+use Rattle.searches.specs.Pick.{Held}
 use Rattle.search.specs.declared.Ask.{Ask}
 use Rattle.search.specs.declared.Picked.{Picked}
 use Rattle.search.specs.Asked.{problemOf}
 use Rattle.search.proofs.Ask as K
 use Rattle.search.proofs.Picked as P
-use Rattle.compile_records.specs.Queried.{lentOf}
-use Rattle.jobs.specs.Run.{runOf}
+use Rattle.jobs.specs.Left.{leftOf}
+use Rattle.pick.specs.Picks.{heldIn}
 use Rattle.pick.proofs.Rows.{ask-makes, picked-makes}
 use Rattle.job_text.specs.declared.ReadJob.{ReadJob}
-use Rattle.job_run.specs.Runs.{endingOf}
-use Rattle.job.specs.Answered.{endingRead}
+use Rattle.job_run.specs.Runs.{leftIn}
+use Rattle.job.specs.Answered.{leftRead}
 use Rattle.job_text.proofs.ReadJob as R
 use Rattle.job.proofs.Rows.{read-makes}
 use Rattle.records.proofs.FirstPlaces.{KeptShared, first, shares-first, shared-back}
@@ -169,11 +168,8 @@ module _ (p : Passed) where
   abbrev pub shares : Share × (Share × (Share × (Share × Unit {0})))
   shares = (p .s₁, (p .s₂, (p .s₃, (p .s₄, tt))))
 
-  abbrev pub lent : Lent
-  lent = lentOf (p .nodes .now) (p .edges .now) (places (p .scratch .now))
-
-  abbrev pub open-list : List Place
-  open-list = places (p .list .now)
+  abbrev pub held : Held
+  held = heldIn (places (p .list .now)) (p .nodes .now) (p .edges .now) (places (p .scratch .now))
 
 module _ {M : Type 1} (𝓤 : URA M) (p : Passed) where
   abbrev pub tokens : Item 𝓤
@@ -241,6 +237,9 @@ module _ {M : Type 1} (𝓤 : URA M) (H : Heap 𝓤) (A : Atoms 𝓤) (mem : Mem
 abbrev pub Last : Type 0
 Last = Unit {0} × (Unit {0} × (List ℕ × (List ℕ × (List Record × (List Record × (Unit {0} × Unit {0}))))))
 
+abbrev pub heldAt : Last → Held
+heldAt zs = heldIn (places (zs .1 .1 .1 .1 .0)) (zs .1 .1 .0) (zs .1 .1 .1 .0) (places (zs .1 .1 .1 .1 .1 .0))
+
 -- The run: l₆ and l₇ are where the arrays lie, their first places lent for the lifetimes α and β.
 module _ {M : Type 1} (𝓤 : URA M) (H : Heap 𝓤) (A : Atoms 𝓤) (W : Given 𝓤 H A) (mem : Memory → SProp 𝓤) (run : Routine → Fun 𝓤) (p : Passed) (c : Parts p) (l₆ l₇ α : ℕ) (γ : GName) (β : ℕ) (δ : GName) where
   abbrev pub run-args : RefT (List ℕ) × (RefT (List ℕ) × (RefT (List ℕ) × (RefT (List ℕ) × (RefT (List Record) × (RefT (List Record) × (Ask × Unit {0}))))))
@@ -265,8 +264,8 @@ module _ {M : Type 1} (𝓤 : URA M) (H : Heap 𝓤) (A : Atoms 𝓤) (W : Given
   abbrev pub Lasted : Last → Fml
   Lasted zs = lasts whole.ended run-lfts run-args zs
 
-  abbrev pub Ran : Picked → Type 0
-  Ran a = endingOf a ≡ runOf (problemOf (take (c .n) (c .weights)) (take (c .n) (c .profits)) (c .ask .page) (c .ask .width)) (kindOf (c .ask .kind)) (lent p) (open-list p)
+  abbrev pub Ran : Picked → Last → Type 0
+  Ran a zs = leftIn a (heldAt zs) ≡ leftOf (problemOf (take (c .n) (c .weights)) (take (c .n) (c .profits)) (c .ask .page) (c .ask .width)) (kindOf (c .ask .kind)) (held p)
 
 -- ---- the end
 
@@ -275,7 +274,7 @@ module _ {M : Type 1} (𝓤 : URA M) (H : Heap 𝓤) (A : Atoms 𝓤) (W : Given
   Post = walkOf 𝓤 H A f.ended stayed (f.clauses 𝓤 H A mem run) .post ((lfts p, shares p, tt, args p, vals p), tt)
 
   module _ (c : Parts p) (l₆ l₇ α : ℕ) (γ : GName) (β : ℕ) (δ : GName) where
-    pub exits : (a : Picked) (z : Val) (zs : Last) → Is P.the-row a (z ∷ []) → endingOf a ≡ endingRead (p .read) (lent p) (open-list p) → ent 𝓤 (⋆ 𝓤 H A (tokens 𝓤 p ∷ ‵ (Lasted 𝓤 H A W mem run p c l₆ l₇ α γ β δ zs) ∷ [])) (Post z)
+    pub exits : (a : Picked) (z : Val) (zs : Last) → Is P.the-row a (z ∷ []) → leftIn a (heldAt zs) ≡ leftRead (p .read) (held p) → ent 𝓤 (⋆ 𝓤 H A (tokens 𝓤 p ∷ ‵ (Lasted 𝓤 H A W mem run p c l₆ l₇ α γ β δ zs) ∷ [])) (Post z)
     exits a z zs is e =
         qed W (tokens 𝓤 p ∷ ‵ (Lasted 𝓤 H A W mem run p c l₆ l₇ α γ β δ zs) ∷ []) ∵ move ! (1 ∷ []) $ fsplit ! $ drop ! $ fsplit ! $ drop ! $
         fsplit ! $ fsplit ! $ move ! (1 ∷ []) $ feqL ! (λ as-long₁. move ! (1 ∷ []) $

@@ -13,8 +13,8 @@ use prog.Routine.{Routine}
 use prog.Wp.{Heap, Env, Tables}
 use ghost.Atoms.{Atoms}
 use contract.Monad.{Fun, fact}
-use types.Kit.{Given, Item, ‵, raw, some, later, _⊛_, atRet, _$_, !, Goal, prop, runs, passes, allocs, params′, Sq, by, move, drop, group, use1, use2, split, pick, rewrite, await}
-use types.Run.{look, init, forget, stop, hop, fld, from, load, of-opd, addr, assigns, and-then, no-more, land, returns, params1, pass1, pass0}
+use types.Kit.{Given, Item, ‵, raw, some, later, _⊛_, atRet, _$_, !, Goal, prop, runs, allocs, params′, Sq, by, move, drop, group, use1, use2, split, pick, rewrite, await}
+use types.Run.{look, init, forget, stop, hop, fld, from, load, of-opd, addr, assigns, and-then, no-more, land, returns}
 use types.Part.{agg, whole as all, sub, look-in}
 use types.Tokens.{lft-new, lft-end}
 use sound.WpLaws.{fmOf}
@@ -34,7 +34,7 @@ use Rattle.search.proofs.Ask as K
 use Rattle.search.proofs.Ask.Laws as K′
 use Rattle.search.proofs.Picked as P
 use Rattle.search.proofs.Picked.Laws as P′
-use Rattle.pick.proofs.Locals.{deaths, allocated, freed}
+use Rattle.records.proofs.Entered.{AllTyped, deaths, freed, entered as all-entered}
 use Rattle.pick.proofs.Rows.{ask-typed, picked-typed}
 use Rattle.job_text.proofs.ReadJob.Laws as R′
 use Rattle.job.proofs.Rows.{read-typed}
@@ -52,7 +52,7 @@ use Rattle.job_run.proofs.run as whole
 use Rattle.job_run.proofs.run.Symbol.{name as #job-run·run}
 use Rattle.job.proofs.run_items.Code as code
 use Rattle.job.proofs.run_items.Code.Mir as pieces
-use Rattle.job.proofs.run_items.Proof.Calls.{Passed, Parts, Numbers, numbers-ty, numbers-typed, numbers-makes, Shared, shares-numbers, numbers-back, nodes-val, edges-val, list-val, scratch-val, Lists, tokens, tokensWith, WeightsC, ProfitsC, CountC, AskC, RunC, to-weights, goes-weights, told-weights, to-profits, goes-profits, told-profits, to-count, goes-count, told-count, to-ask, goes-ask, told-ask, Last, run-args, run-lfts, to-run, goes-run, Lasted, Ran, lent, open-list, Post, exits}
+use Rattle.job.proofs.run_items.Proof.Calls.{Passed, Parts, Numbers, numbers-ty, numbers-typed, numbers-makes, Shared, shares-numbers, numbers-back, nodes-val, edges-val, list-val, scratch-val, Lists, tokens, tokensWith, WeightsC, ProfitsC, CountC, AskC, RunC, to-weights, goes-weights, told-weights, to-profits, goes-profits, told-profits, to-count, goes-count, told-count, to-ask, goes-ask, told-ask, Last, heldAt, run-args, run-lfts, to-run, goes-run, Lasted, Ran, held, Post, exits}
 
 abbrev word : Ty
 word = tyInt w64
@@ -89,9 +89,12 @@ refR = tyRef erased mut (pointee (T.the-row .written))
 abbrev sliceR : Ty
 sliceR = sliceTy refR
 
--- the locals as they are written here, which are the function's
+-- the locals behind the parameters; and all of them as they are written here, which are the function's
+abbrev others : List Local
+others = local numbers-ty memorySlot ∷ local numbers-ty memorySlot ∷ local word valueLocal ∷ local K′.mir valueLocal ∷ local numbers-ty valueLocal ∷ local refA valueLocal ∷ local sliceA valueLocal ∷ local refA valueLocal ∷ local sliceA valueLocal ∷ local ref valueLocal ∷ local slice valueLocal ∷ local ref valueLocal ∷ local slice valueLocal ∷ local refR valueLocal ∷ local sliceR valueLocal ∷ local refR valueLocal ∷ local sliceR valueLocal ∷ []
+
 abbrev pub locals : List Local
-locals = local P′.mir valueLocal ∷ local R′.mir valueLocal ∷ local slice₁ valueLocal ∷ local slice₂ valueLocal ∷ local slice₃ valueLocal ∷ local slice₄ valueLocal ∷ local numbers-ty memorySlot ∷ local numbers-ty memorySlot ∷ local word valueLocal ∷ local K′.mir valueLocal ∷ local numbers-ty valueLocal ∷ local refA valueLocal ∷ local sliceA valueLocal ∷ local refA valueLocal ∷ local sliceA valueLocal ∷ local ref valueLocal ∷ local slice valueLocal ∷ local ref valueLocal ∷ local slice valueLocal ∷ local refR valueLocal ∷ local sliceR valueLocal ∷ local refR valueLocal ∷ local sliceR valueLocal ∷ []
+locals = local P′.mir valueLocal ∷ local R′.mir valueLocal ∷ local slice₁ valueLocal ∷ local slice₂ valueLocal ∷ local slice₃ valueLocal ∷ local slice₄ valueLocal ∷ others
 
 pub same-locals : locals ≡ code.function .locals
 same-locals = refl
@@ -103,12 +106,8 @@ module _ {M : Type 1} (𝓤 : URA M) (H : Heap 𝓤) (A : Atoms 𝓤) (W : Given
     (known-ask : Triple 𝓤 (𝓣 .C #job·ask-of) (AskC 𝓤 H A mem run))
     (known-run : Triple 𝓤 (𝓣 .C #job-run·run) (RunC 𝓤 H A mem run))
     (l₀ l₁ l₂ l₃ l₄ l₅ l₆ l₇ l₈ l₉ l₁₀ l₁₁ l₁₂ l₁₃ l₁₄ l₁₅ l₁₆ l₁₇ l₁₈ l₁₉ l₂₀ l₂₁ l₂₂ : ℕ) where
-  -- the locals after the result, and all of them
-  abbrev pub E₁ : Env 𝓤 H
-  E₁ = (R′.mir, l₁) ∷ (slice₁, l₂) ∷ (slice₂, l₃) ∷ (slice₃, l₄) ∷ (slice₄, l₅) ∷ (numbers-ty, l₆) ∷ (numbers-ty, l₇) ∷ (word, l₈) ∷ (K′.mir, l₉) ∷ (numbers-ty, l₁₀) ∷ (refA, l₁₁) ∷ (sliceA, l₁₂) ∷ (refA, l₁₃) ∷ (sliceA, l₁₄) ∷ (ref, l₁₅) ∷ (slice, l₁₆) ∷ (ref, l₁₇) ∷ (slice, l₁₈) ∷ (refR, l₁₉) ∷ (sliceR, l₂₀) ∷ (refR, l₂₁) ∷ (sliceR, l₂₂) ∷ []
-
   abbrev pub E : Env 𝓤 H
-  E = (P′.mir, l₀) ∷ E₁
+  E = (P′.mir, l₀) ∷ (R′.mir, l₁) ∷ (slice₁, l₂) ∷ (slice₂, l₃) ∷ (slice₃, l₄) ∷ (slice₄, l₅) ∷ (numbers-ty, l₆) ∷ (numbers-ty, l₇) ∷ (word, l₈) ∷ (K′.mir, l₉) ∷ (numbers-ty, l₁₀) ∷ (refA, l₁₁) ∷ (sliceA, l₁₂) ∷ (refA, l₁₃) ∷ (sliceA, l₁₄) ∷ (ref, l₁₅) ∷ (slice, l₁₆) ∷ (ref, l₁₇) ∷ (slice, l₁₈) ∷ (refR, l₁₉) ∷ (sliceR, l₂₀) ∷ (refR, l₂₁) ∷ (sliceR, l₂₂) ∷ []
 
   -- the parameters in their locals, with what the five behind them hold, and room for the answer
   abbrev Cells : Item 𝓤 → Item 𝓤 → Item 𝓤 → Item 𝓤 → Item 𝓤 → List (Item 𝓤) → List (Item 𝓤)
@@ -164,7 +163,7 @@ module _ {M : Type 1} (𝓤 : URA M) (H : Heap 𝓤) (A : Atoms 𝓤) (W : Given
         ∷ []
 
     -- the run has answered, and both arrays are back in their locals
-    module _ (α : ℕ) (γ : GName) (β : ℕ) (δ : GName) (a : Picked) (z : Val) (zs : Last) (is : Is P.the-row a (z ∷ [])) (e : Ran 𝓤 H A W mem run p c l₆ l₇ α γ β δ a) (u v : Val) where
+    module _ (α : ℕ) (γ : GName) (β : ℕ) (δ : GName) (a : Picked) (z : Val) (zs : Last) (is : Is P.the-row a (z ∷ [])) (e : Ran 𝓤 H A W mem run p c l₆ l₇ α γ β δ a zs) (u v : Val) where
       abbrev Called : List (Item 𝓤)
       Called =
           tokens 𝓤 p
@@ -188,7 +187,7 @@ module _ {M : Type 1} (𝓤 : URA M) (H : Heap 𝓤) (A : Atoms 𝓤) (W : Given
           returns ! (look ! 3 refl) $ forget ! 3 refl $ forget ! 4 refl $ forget ! 5 refl $ forget ! 6 refl $ forget ! 7 refl $ forget ! 8 refl $ forget ! 9 refl $ forget ! 10 refl $ forget ! 11 refl $ forget ! 12 refl $ forget ! 14 refl $ forget ! 15 refl $ forget ! 16 refl $ forget ! 17 refl $ forget ! 18 refl $ forget ! 19 refl $ forget ! 20 refl $ forget ! 21 refl $ forget ! 22 refl $ forget ! 23 refl $ forget ! 24 refl $ forget ! 25 refl $
           move ! (3 ∷ 4 ∷ 5 ∷ 6 ∷ 7 ∷ 8 ∷ 9 ∷ 10 ∷ 11 ∷ 12 ∷ 13 ∷ 14 ∷ 15 ∷ 16 ∷ 17 ∷ 18 ∷ 19 ∷ 20 ∷ 21 ∷ 22 ∷ 23 ∷ 24 ∷ 25 ∷ 26 ∷ []) $ group ! 24 $ move ! (0 ∷ 3 ∷ []) $
           freed W (tokens 𝓤 p ∷ ‵ (Lasted 𝓤 H A W mem run p c l₆ l₇ α γ β δ zs) ∷ []) E (prop (Post 𝓤 H A W mem run p z))
-          (by ! (exits 𝓤 H A W mem run p c l₆ l₇ α γ β δ a z zs is (ran (p .read) (lent p) (open-list p) a (c .weights) (c .profits) (c .n) (c .ask) (c .weights-are) (c .profits-are) (c .n-is) (c .asks) e)))
+          (by ! (exits 𝓤 H A W mem run p c l₆ l₇ α γ β δ a z zs is (ran (p .read) (held p) a (heldAt zs) (c .weights) (c .profits) (c .n) (c .ask) (c .weights-are) (c .profits-are) (c .n-is) (c .asks) e)))
 
     -- all that the run is passed stands in its locals
     abbrev Ready : List (Item 𝓤)
@@ -207,8 +206,8 @@ module _ {M : Type 1} (𝓤 : URA M) (H : Heap 𝓤) (A : Atoms 𝓤) (W : Given
         move ! (5 ∷ 2 ∷ 6 ∷ 3 ∷ 0 ∷ 7 ∷ []) $ group ! 6 $ use1 W (raw (RunC 𝓤 H A mem run .pre (to-run 𝓤 H A W mem run p c l₆ l₇ α γ β δ))) (goes-run 𝓤 H A W mem run p c l₆ l₇ α γ β δ) $
         calls-at ! (fmOf 𝓤 H (W .laws) 𝓣) (RunC 𝓤 H A mem run) known-run (to-run 𝓤 H A W mem run p c l₆ l₇ α γ β δ) (and-then ! (load ! (from ! (stop !)) (look ! 14 refl)) (and-then ! (load ! (from ! (stop !)) (look ! 16 refl)) (and-then ! (load ! (from ! (stop !)) (look ! 18 refl)) (and-then ! (load ! (from ! (stop !)) (look ! 20 refl)) (and-then ! (load ! (from ! (stop !)) (look ! 22 refl)) (and-then ! (load ! (from ! (stop !)) (look ! 24 refl)) (and-then ! (load ! (from ! (stop !)) (look ! 11 refl)) (no-more !)))))))) (λ z.
         use1 W (later (some (λ (a : Picked). (tokensWith 𝓤 p α β ⊛ ‵ (P.the-row .own a (z ∷ []))) ⊛ raw (ensured 𝓤 H A whole.ended (whole.clauses 𝓤 H A mem run) (run-lfts 𝓤 H A W mem run p c l₆ l₇ α γ β δ) (run-args 𝓤 H A W mem run p c l₆ l₇ α γ β δ) tt a)))) (id⊢ 𝓤 _) $ await ! tt $ pick ! (λ a.
-        split ! $ move ! (1 ∷ []) $ use1 W (some (λ (zs : Last). ‵ (Lasted 𝓤 H A W mem run p c l₆ l₇ α γ β δ zs) ⊛ raw (fact 𝓤 (Ran 𝓤 H A W mem run p c l₆ l₇ α γ β δ a)))) (id⊢ 𝓤 _) $ pick ! (λ zs.
-        split ! $ move ! (1 ∷ []) $ heard ! (Ran 𝓤 H A W mem run p c l₆ l₇ α γ β δ a) (λ e.
+        split ! $ move ! (1 ∷ []) $ use1 W (some (λ (zs : Last). ‵ (Lasted 𝓤 H A W mem run p c l₆ l₇ α γ β δ zs) ⊛ raw (fact 𝓤 (Ran 𝓤 H A W mem run p c l₆ l₇ α γ β δ a zs)))) (id⊢ 𝓤 _) $ pick ! (λ zs.
+        split ! $ move ! (1 ∷ []) $ heard ! (Ran 𝓤 H A W mem run p c l₆ l₇ α γ β δ a zs) (λ e.
         move ! (1 ∷ []) $ split ! $ move ! (1 ∷ []) $ facts ! P.the-row (Is P.the-row) (shows 𝓤 H A P.the-row) a (z ∷ []) (λ is.
         -- [the tokens; the last lists; the profits' rest; the weights' rest; …]
         land ! (from ! (stop !)) (init ! 5 refl (picked-typed 𝓤 H A W a z is)) $
@@ -288,43 +287,6 @@ module _ {M : Type 1} (𝓤 : URA M) (H : Heap 𝓤) (A : Atoms 𝓤) (W : Given
       split ! $ move ! (1 ∷ []) $ facts ! Numbers (Is Numbers) (shows 𝓤 H A Numbers) z (v ∷ []) (λ is.
       land ! (from ! (stop !)) (init ! 14 refl (numbers-typed 𝓤 H A W z v is)) $ drop ! $ assigns ! (of-opd ! (load ! (from ! (stop !)) (look ! 13 refl))) (from ! (stop !)) (init ! 9 refl (numbers-typed 𝓤 H A W z v is)) $ forget ! 13 refl $ earns z v is e))))
 
-  -- the locals are there, with nothing in them yet
-  abbrev pub Entered : List (Item 𝓤)
-  Entered =
-      tokens 𝓤 p
-      ∷ ‵ (Lists p)
-      ∷ deaths 𝓤 H E
-      ∷ ‵ (froom P′.mir l₀ 0)
-      ∷ ‵ (froom R′.mir l₁ 0)
-      ∷ ‵ (froom slice₁ l₂ 0)
-      ∷ ‵ (froom slice₂ l₃ 0)
-      ∷ ‵ (froom slice₃ l₄ 0)
-      ∷ ‵ (froom slice₄ l₅ 0)
-      ∷ ‵ (froom numbers-ty l₆ 0)
-      ∷ ‵ (froom numbers-ty l₇ 0)
-      ∷ ‵ (froom word l₈ 0)
-      ∷ ‵ (froom K′.mir l₉ 0)
-      ∷ ‵ (froom numbers-ty l₁₀ 0)
-      ∷ ‵ (froom refA l₁₁ 0)
-      ∷ ‵ (froom sliceA l₁₂ 0)
-      ∷ ‵ (froom refA l₁₃ 0)
-      ∷ ‵ (froom sliceA l₁₄ 0)
-      ∷ ‵ (froom ref l₁₅ 0)
-      ∷ ‵ (froom slice l₁₆ 0)
-      ∷ ‵ (froom ref l₁₇ 0)
-      ∷ ‵ (froom slice l₁₈ 0)
-      ∷ ‵ (froom refR l₁₉ 0)
-      ∷ ‵ (froom sliceR l₂₀ 0)
-      ∷ ‵ (froom refR l₂₁ 0)
-      ∷ ‵ (froom sliceR l₂₂ 0)
-      ∷ ‵ ftrue
-      ∷ []
-
-  pub passed : Sq W Entered (passes E₁ (p .read-val ∷ nodes-val p ∷ edges-val p ∷ list-val p ∷ scratch-val p ∷ []) (runs (𝓣 .C) (𝓣 .Λ) E pieces.t-1 (atRet E (Post 𝓤 H A W mem run p))))
-  passed =
-      pass1 ! (init ! 4 refl (read-typed 𝓤 H A W (p .read) (p .read-val) (p .read-is))) $ pass1 ! (init ! 5 refl (tt, (tt, (record { fits = p .nodes-room .0 }, tt)))) $ pass1 ! (init ! 6 refl (tt, (tt, (record { fits = p .edges-room .0 }, tt)))) $
-      pass1 ! (init ! 7 refl (tt, (tt, (record { fits = p .list-room .0 }, tt)))) $ pass1 ! (init ! 8 refl (tt, (tt, (record { fits = p .scratch-room .0 }, tt)))) $ pass0 ! $ begins
-
 module _ {M : Type 1} (𝓤 : URA M) (H : Heap 𝓤) (A : Atoms 𝓤) (W : Given 𝓤 H A) (mem : Memory → SProp 𝓤) (run : Routine → Fun 𝓤) (p : Passed) (𝓣 : Tables 𝓤 H)
     (known-weights : Triple 𝓤 (𝓣 .C #job·weights-of) (WeightsC 𝓤 H A mem run))
     (known-profits : Triple 𝓤 (𝓣 .C #job·profits-of) (ProfitsC 𝓤 H A mem run))
@@ -337,8 +299,15 @@ module _ {M : Type 1} (𝓤 : URA M) (H : Heap 𝓤) (A : Atoms 𝓤) (W : Given
   abbrev pub Runs : Env 𝓤 H → Goal 𝓤 H
   Runs E = params′ E (p .read-val ∷ nodes-val p ∷ edges-val p ∷ list-val p ∷ scratch-val p ∷ []) (runs (𝓣 .C) (𝓣 .Λ) E pieces.t-1 (atRet E (Post 𝓤 H A W mem run p)))
 
+  -- the parameters with their machine values
+  abbrev passed-in : List (Ty × Val)
+  passed-in = (R′.mir, p .read-val) ∷ (slice₁, nodes-val p) ∷ (slice₂, edges-val p) ∷ (slice₃, list-val p) ∷ (slice₄, scratch-val p) ∷ []
+
+  passed-typed : AllTyped passed-in
+  passed-typed = (read-typed 𝓤 H A W (p .read) (p .read-val) (p .read-is), ((tt, (tt, (record { fits = p .nodes-room .0 }, tt))), ((tt, (tt, (record { fits = p .edges-room .0 }, tt))), ((tt, (tt, (record { fits = p .list-room .0 }, tt))), ((tt, (tt, (record { fits = p .scratch-room .0 }, tt))), tt)))))
+
   pub entered : Sq W Taken (allocs locals Runs)
   entered =
-      allocated W Taken locals Runs (λ bs. params1 ! $
+      all-entered W (𝓣 .C) (𝓣 .Λ) P′.mir passed-in others valueLocal pieces.t-1 Taken (Post 𝓤 H A W mem run p) passed-typed (λ b bs.
       move ! (2 ∷ 3 ∷ 1 ∷ 0 ∷ []) $
-      by ! (passed 𝓤 H A W mem run p 𝓣 known-weights known-profits known-count known-ask known-run (bs .0) (bs .1 .0) (bs .1 .1 .0) (bs .1 .1 .1 .0) (bs .1 .1 .1 .1 .0) (bs .1 .1 .1 .1 .1 .0) (bs .1 .1 .1 .1 .1 .1 .0) (bs .1 .1 .1 .1 .1 .1 .1 .0) (bs .1 .1 .1 .1 .1 .1 .1 .1 .0) (bs .1 .1 .1 .1 .1 .1 .1 .1 .1 .0) (bs .1 .1 .1 .1 .1 .1 .1 .1 .1 .1 .0) (bs .1 .1 .1 .1 .1 .1 .1 .1 .1 .1 .1 .0) (bs .1 .1 .1 .1 .1 .1 .1 .1 .1 .1 .1 .1 .0) (bs .1 .1 .1 .1 .1 .1 .1 .1 .1 .1 .1 .1 .1 .0) (bs .1 .1 .1 .1 .1 .1 .1 .1 .1 .1 .1 .1 .1 .1 .0) (bs .1 .1 .1 .1 .1 .1 .1 .1 .1 .1 .1 .1 .1 .1 .1 .0) (bs .1 .1 .1 .1 .1 .1 .1 .1 .1 .1 .1 .1 .1 .1 .1 .1 .0) (bs .1 .1 .1 .1 .1 .1 .1 .1 .1 .1 .1 .1 .1 .1 .1 .1 .1 .0) (bs .1 .1 .1 .1 .1 .1 .1 .1 .1 .1 .1 .1 .1 .1 .1 .1 .1 .1 .0) (bs .1 .1 .1 .1 .1 .1 .1 .1 .1 .1 .1 .1 .1 .1 .1 .1 .1 .1 .1 .0) (bs .1 .1 .1 .1 .1 .1 .1 .1 .1 .1 .1 .1 .1 .1 .1 .1 .1 .1 .1 .1 .0) (bs .1 .1 .1 .1 .1 .1 .1 .1 .1 .1 .1 .1 .1 .1 .1 .1 .1 .1 .1 .1 .1 .0) (bs .1 .1 .1 .1 .1 .1 .1 .1 .1 .1 .1 .1 .1 .1 .1 .1 .1 .1 .1 .1 .1 .1 .0) .prf))
+      by ! (begins 𝓤 H A W mem run p 𝓣 known-weights known-profits known-count known-ask known-run b (bs .0) (bs .1 .0) (bs .1 .1 .0) (bs .1 .1 .1 .0) (bs .1 .1 .1 .1 .0) (bs .1 .1 .1 .1 .1 .0) (bs .1 .1 .1 .1 .1 .1 .0) (bs .1 .1 .1 .1 .1 .1 .1 .0) (bs .1 .1 .1 .1 .1 .1 .1 .1 .0) (bs .1 .1 .1 .1 .1 .1 .1 .1 .1 .0) (bs .1 .1 .1 .1 .1 .1 .1 .1 .1 .1 .0) (bs .1 .1 .1 .1 .1 .1 .1 .1 .1 .1 .1 .0) (bs .1 .1 .1 .1 .1 .1 .1 .1 .1 .1 .1 .1 .0) (bs .1 .1 .1 .1 .1 .1 .1 .1 .1 .1 .1 .1 .1 .0) (bs .1 .1 .1 .1 .1 .1 .1 .1 .1 .1 .1 .1 .1 .1 .0) (bs .1 .1 .1 .1 .1 .1 .1 .1 .1 .1 .1 .1 .1 .1 .1 .0) (bs .1 .1 .1 .1 .1 .1 .1 .1 .1 .1 .1 .1 .1 .1 .1 .1 .0) (bs .1 .1 .1 .1 .1 .1 .1 .1 .1 .1 .1 .1 .1 .1 .1 .1 .1 .0) (bs .1 .1 .1 .1 .1 .1 .1 .1 .1 .1 .1 .1 .1 .1 .1 .1 .1 .1 .0) (bs .1 .1 .1 .1 .1 .1 .1 .1 .1 .1 .1 .1 .1 .1 .1 .1 .1 .1 .1 .0) (bs .1 .1 .1 .1 .1 .1 .1 .1 .1 .1 .1 .1 .1 .1 .1 .1 .1 .1 .1 .1 .0) (bs .1 .1 .1 .1 .1 .1 .1 .1 .1 .1 .1 .1 .1 .1 .1 .1 .1 .1 .1 .1 .1 .0) .prf))

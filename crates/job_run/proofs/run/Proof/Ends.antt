@@ -27,15 +27,17 @@ use Rattle.records.specs.Structs.{places}
 use Rattle.records.proofs.Record as T
 use Rattle.cutset.specs.Whole.{kindOf}
 use Rattle.searches.specs.Compile.{Lent}
-use Rattle.compile_records.specs.Queried.{lentOf}
+use Rattle.searches.specs.Pick.{Held}
 use Rattle.search.specs.declared.Ask.{Ask}
 use Rattle.search.specs.declared.Picked.{Picked}
 use Rattle.search.specs.Asked.{problemOf}
 use Rattle.search.proofs.Ask as K
 use Rattle.search.proofs.Picked as P
+use Rattle.pick.specs.Picks.{heldIn}
 use Rattle.pick.proofs.Rows.{ask-makes, picked-makes}
 use Rattle.jobs.specs.Run.{Ending, runOf}
-use Rattle.job_run.specs.Runs.{endingOf}
+use Rattle.jobs.specs.Left.{runLeaves, left}
+use Rattle.job_run.specs.Runs.{leftIn}
 use Rattle.job_run.proofs.Passed.{Passed, nodes, edges, list, scratch, weights-val, profits-val, nodes-val, edges-val, list-val, scratch-val, Weights, Profits, Nodes, Edges, Listed, Scratch}
 use Rattle.job_run.proofs.run as f
 
@@ -64,17 +66,23 @@ module _ (p : Passed) where
   abbrev pub kind : CutsetKind
   kind = kindOf (p .ask .kind)
 
+  abbrev pub held : Held
+  held = heldIn (places (p .list-now)) (p .nodes-now) (p .edges-now) (places (p .scratch-now))
+
   abbrev pub lent : Lent
-  lent = lentOf (p .nodes-now) (p .edges-now) (places (p .scratch-now))
+  lent = held .lent
 
   abbrev pub ending : Ending
   ending = runOf problem kind lent (places (p .list-now))
+
+  abbrev pub leaves : Held
+  leaves = runLeaves problem kind held
 
 module _ {M : Type 1} (𝓤 : URA M) (H : Heap 𝓤) (A : Atoms 𝓤) (mem : Memory → SProp 𝓤) (run : Routine → Fun 𝓤) (p : Passed) where
   abbrev pub Post : Val → SProp 𝓤
   Post = walkOf 𝓤 H A f.ended stayed (f.clauses 𝓤 H A mem run) .post ((lfts p, parts p, tt, args p, vals p), tt)
 
-  pub exits : Given 𝓤 H A → (c : Picked) (cv : Val) (ns es : List ℕ) (rs xs : List Record) → Is P.the-row c (cv ∷ []) → endingOf c ≡ ending p
+  pub exits : Given 𝓤 H A → (c : Picked) (cv : Val) (ns es : List ℕ) (rs xs : List Record) → Is P.the-row c (cv ∷ []) → leftIn c (heldIn (places rs) ns es (places xs)) ≡ left (ending p) (leaves p)
       → length ns ≡ length (p .nodes-now) → length es ≡ length (p .edges-now) → length rs ≡ length (p .list-now) → length xs ≡ length (p .scratch-now)
       → ent 𝓤 (⋆ 𝓤 H A (‵ (flft (p .κ₀) (p .q₀)) ∷ ‵ (flft (p .κ₁) (p .q₁)) ∷ ‵ (flft (p .κ₂) (p .q₂)) ∷ ‵ (flft (p .κ₃) (p .q₃)) ∷ ‵ (flft (p .κ₄) (p .q₄)) ∷ ‵ (flft (p .κ₅) (p .q₅)) ∷ ‵ (Weights p) ∷ ‵ (Profits p) ∷ ‵ (Nodes p ns) ∷ ‵ (Edges p es) ∷ ‵ (Listed p rs) ∷ ‵ (Scratch p xs) ∷ [])) (Post cv)
   exits W c cv ns es rs xs ci kept same-nodes same-edges same-list same-scratch =

@@ -37,7 +37,6 @@ use Rattle.records.proofs.Places.{places-length}
 use Rattle.records.proofs.Again.{LentAgain}
 use Rattle.records.proofs.Turns as turned-by
 use Rattle.records.proofs.Turns.{value-is}
-use Rattle.compile_records.specs.Queried.{lentOf}
 use Rattle.searches.specs.Pick as Def
 use Rattle.search.specs.declared.Picked.{Picked}
 use Rattle.search.specs.Held.{searchOf}
@@ -46,10 +45,11 @@ use Rattle.search.proofs.Started.Laws as B′
 use Rattle.search.proofs.Picked as P
 use Rattle.search.proofs.Picked.Laws as P′
 use Rattle.pick.specs.Picks.{heldIn, Picks}
-use Rattle.pick.proofs.Locals.{deaths, freed}
+use Rattle.records.proofs.Entered.{deaths, freed}
 use Rattle.pick.proofs.Rows.{picked-typed}
 use Rattle.jobs.specs.Run.{askedFor}
-use Rattle.job_run.specs.Runs.{isGoing, endingOf}
+use Rattle.jobs.specs.Left.{left}
+use Rattle.job_run.specs.Runs.{isGoing, leftIn}
 use Rattle.job_run.proofs.Turning.{Going, turned, asks, is-over, same-rooms}
 use Rattle.job_run.proofs.Lending.{lends-on, gets-back}
 use Rattle.job_run.proofs.Passed.{Passed, weights-val, profits-val, nodes-val, edges-val, list-val, scratch-val, Weights, Profits, Nodes, Edges, Listed, Scratch}
@@ -61,7 +61,7 @@ use Rattle.job_run.proofs.turn.Symbol.{name as #job-run·turn}
 use Rattle.job_run.proofs.run.Code as code
 use Rattle.job_run.proofs.run.Code.Mir as pieces
 use Rattle.job_run.proofs.run.Proof.Calls.{GoingC, TurnC, NodesLent, EdgesLent, ListedLent, ScratchLent, going-args, to-going, told-going, goes-going, turn-args, to-turn, goes-turn}
-use Rattle.job_run.proofs.run.Proof.Ends.{problem, kind, lent, ending, Post, exits}
+use Rattle.job_run.proofs.run.Proof.Ends.{problem, kind, lent, ending, leaves, Post, exits}
 
 abbrev pub word : Ty
 word = tyInt w64
@@ -96,9 +96,12 @@ record-lent = tyRef erased mut (pointee (T.the-row .written))
 abbrev pub record-slice : Ty
 record-slice = sliceTy record-lent
 
--- the locals as they are written here, which are the function's
+-- the locals behind the parameters; and all of them as they are written here, which are the function's
+abbrev pub others : List Local
+others = local word valueLocal ∷ local B′.mir valueLocal ∷ local P′.mir valueLocal ∷ local record-lent valueLocal ∷ local record-slice valueLocal ∷ local tyBool valueLocal ∷ local lent-ref valueLocal ∷ local lent-slice valueLocal ∷ local lent-ref valueLocal ∷ local lent-slice valueLocal ∷ local record-lent valueLocal ∷ local record-slice valueLocal ∷ local record-lent valueLocal ∷ local record-slice valueLocal ∷ []
+
 abbrev pub locals : List Local
-locals = local P′.mir valueLocal ∷ local slice₀ valueLocal ∷ local slice₁ valueLocal ∷ local slice₂ valueLocal ∷ local slice₃ valueLocal ∷ local slice₄ valueLocal ∷ local slice₅ valueLocal ∷ local K′.mir valueLocal ∷ local word valueLocal ∷ local B′.mir valueLocal ∷ local P′.mir valueLocal ∷ local record-lent valueLocal ∷ local record-slice valueLocal ∷ local tyBool valueLocal ∷ local lent-ref valueLocal ∷ local lent-slice valueLocal ∷ local lent-ref valueLocal ∷ local lent-slice valueLocal ∷ local record-lent valueLocal ∷ local record-slice valueLocal ∷ local record-lent valueLocal ∷ local record-slice valueLocal ∷ []
+locals = local P′.mir valueLocal ∷ local slice₀ valueLocal ∷ local slice₁ valueLocal ∷ local slice₂ valueLocal ∷ local slice₃ valueLocal ∷ local slice₄ valueLocal ∷ local slice₅ valueLocal ∷ local K′.mir valueLocal ∷ others
 
 pub same-locals : locals ≡ code.function .locals
 same-locals = refl
@@ -108,12 +111,8 @@ abbrev pub last-call : Body
 last-call = call #job-run·turn (copy (place 1 []) ∷ copy (place 2 []) ∷ copy (place 15 []) ∷ copy (place 17 []) ∷ copy (place 19 []) ∷ copy (place 21 []) ∷ copy (place 7 []) ∷ copy (place 10 []) ∷ []) (place 10 [])
 
 module _ {M : Type 1} (𝓤 : URA M) (H : Heap 𝓤) (l₀ l₁ l₂ l₃ l₄ l₅ l₆ l₇ l₈ l₉ l₁₀ l₁₁ l₁₂ l₁₃ l₁₄ l₁₅ l₁₆ l₁₇ l₁₈ l₁₉ l₂₀ l₂₁ : ℕ) where
-  -- the locals after the result, and all of them
-  abbrev pub E₁ : Env 𝓤 H
-  E₁ = (slice₀, l₁) ∷ (slice₁, l₂) ∷ (slice₂, l₃) ∷ (slice₃, l₄) ∷ (slice₄, l₅) ∷ (slice₅, l₆) ∷ (K′.mir, l₇) ∷ (word, l₈) ∷ (B′.mir, l₉) ∷ (P′.mir, l₁₀) ∷ (record-lent, l₁₁) ∷ (record-slice, l₁₂) ∷ (tyBool, l₁₃) ∷ (lent-ref, l₁₄) ∷ (lent-slice, l₁₅) ∷ (lent-ref, l₁₆) ∷ (lent-slice, l₁₇) ∷ (record-lent, l₁₈) ∷ (record-slice, l₁₉) ∷ (record-lent, l₂₀) ∷ (record-slice, l₂₁) ∷ []
-
   abbrev pub E : Env 𝓤 H
-  E = (P′.mir, l₀) ∷ E₁
+  E = (P′.mir, l₀) ∷ (slice₀, l₁) ∷ (slice₁, l₂) ∷ (slice₂, l₃) ∷ (slice₃, l₄) ∷ (slice₄, l₅) ∷ (slice₅, l₆) ∷ (K′.mir, l₇) ∷ (word, l₈) ∷ (B′.mir, l₉) ∷ (P′.mir, l₁₀) ∷ (record-lent, l₁₁) ∷ (record-slice, l₁₂) ∷ (tyBool, l₁₃) ∷ (lent-ref, l₁₄) ∷ (lent-slice, l₁₅) ∷ (lent-ref, l₁₆) ∷ (lent-slice, l₁₇) ∷ (record-lent, l₁₈) ∷ (record-slice, l₁₉) ∷ (record-lent, l₂₀) ∷ (record-slice, l₂₁) ∷ []
 
 -- what is owned at the loop's head: the answer so far, and what the slices hold
 abbrev pub At : {M : Type 1} (𝓤 : URA M) (H : Heap 𝓤) (p : Passed) (l₀ l₁ l₂ l₃ l₄ l₅ l₆ l₇ l₈ l₉ l₁₀ l₁₁ l₁₂ l₁₃ l₁₄ l₁₅ l₁₆ l₁₇ l₁₈ l₁₉ l₂₀ l₂₁ : ℕ) → Val → List ℕ → List ℕ → List Record → List Record → List (Item 𝓤)
@@ -165,7 +164,7 @@ module _ {M : Type 1} (𝓤 : URA M) (H : Heap 𝓤) (A : Atoms 𝓤) (W : Given
     (known-going : Triple 𝓤 (𝓣 .C #job-run·goes-on) (GoingC 𝓤 H A mem run))
     (known-turn : Triple 𝓤 (𝓣 .C #job-run·turn) (TurnC 𝓤 H A mem run))
     (l₀ l₁ l₂ l₃ l₄ l₅ l₆ l₇ l₈ l₉ l₁₀ l₁₁ l₁₂ l₁₃ l₁₄ l₁₅ l₁₆ l₁₇ l₁₈ l₁₉ l₂₀ l₂₁ : ℕ) where
-  module _ (X : SProp 𝓤) (c : Picked) (cv : Val) (ci : Is P.the-row c (cv ∷ [])) (ns es : List ℕ) (rs xs : List Record) (same-nodes : length ns ≡ length (p .nodes-now)) (same-edges : length es ≡ length (p .edges-now)) (same-list : length rs ≡ length (p .list-now)) (same-scratch : length xs ≡ length (p .scratch-now)) (kept : endingOf c ≡ ending p) where
+  module _ (X : SProp 𝓤) (c : Picked) (cv : Val) (ci : Is P.the-row c (cv ∷ [])) (ns es : List ℕ) (rs xs : List Record) (same-nodes : length ns ≡ length (p .nodes-now)) (same-edges : length es ≡ length (p .edges-now)) (same-list : length rs ≡ length (p .list-now)) (same-scratch : length xs ≡ length (p .scratch-now)) (kept : leftIn c (heldIn (places rs) ns es (places xs)) ≡ left (ending p) (leaves p)) where
     -- the run is over
     abbrev pub Returning : List (Item 𝓤)
     Returning =
@@ -215,7 +214,7 @@ module _ {M : Type 1} (𝓤 : URA M) (H : Heap 𝓤) (A : Atoms 𝓤) (W : Given
         move ! (0 ∷ 13 ∷ 1 ∷ 2 ∷ 3 ∷ 4 ∷ 5 ∷ 6 ∷ 7 ∷ 8 ∷ 9 ∷ 10 ∷ 11 ∷ 12 ∷ []) $
         freed W (‵ (flft (p .κ₀) (p .q₀)) ∷ ‵ (flft (p .κ₁) (p .q₁)) ∷ ‵ (flft (p .κ₂) (p .q₂)) ∷ ‵ (flft (p .κ₃) (p .q₃)) ∷ ‵ (flft (p .κ₄) (p .q₄)) ∷ ‵ (flft (p .κ₅) (p .q₅)) ∷ ‵ (Weights p) ∷ ‵ (Profits p) ∷ ‵ (Nodes p ns) ∷ ‵ (Edges p es) ∷ ‵ (Listed p rs) ∷ ‵ (Scratch p xs) ∷ []) (E 𝓤 H l₀ l₁ l₂ l₃ l₄ l₅ l₆ l₇ l₈ l₉ l₁₀ l₁₁ l₁₂ l₁₃ l₁₄ l₁₅ l₁₆ l₁₇ l₁₈ l₁₉ l₂₀ l₂₁) (prop (Post 𝓤 H A mem run p cv)) (by ! (exits 𝓤 H A mem run p W c cv ns es rs xs ci kept same-nodes same-edges same-list same-scratch))
 
-  module _ (X : SProp 𝓤) (c : Picked) (cv : Val) (ci : Is P.the-row c (cv ∷ [])) (ns es : List ℕ) (rs xs : List Record) (same-nodes : length ns ≡ length (p .nodes-now)) (same-edges : length es ≡ length (p .edges-now)) (same-list : length rs ≡ length (p .list-now)) (same-scratch : length xs ≡ length (p .scratch-now)) (off : isGoing c ≡ false) (kept : endingOf c ≡ ending p) where
+  module _ (X : SProp 𝓤) (c : Picked) (cv : Val) (ci : Is P.the-row c (cv ∷ [])) (ns es : List ℕ) (rs xs : List Record) (same-nodes : length ns ≡ length (p .nodes-now)) (same-edges : length es ≡ length (p .edges-now)) (same-list : length rs ≡ length (p .list-now)) (same-scratch : length xs ≡ length (p .scratch-now)) (off : isGoing c ≡ false) (kept : leftIn c (heldIn (places rs) ns es (places xs)) ≡ left (ending p) (leaves p)) where
     -- the loop's head, where the run is over
     abbrev pub Ending : List (Item 𝓤)
     Ending =
@@ -534,7 +533,7 @@ module _ {M : Type 1} (𝓤 : URA M) (H : Heap 𝓤) (A : Atoms 𝓤) (W : Given
     pub same-edges : length (s .es) ≡ length (p .edges-now)
     pub same-list : length (s .rs) ≡ length (p .list-now)
     pub same-scratch : length (s .xs) ≡ length (p .scratch-now)
-    pub goes : Going (problem p) (kind p) (lent p) (ending p) turns-left (s .c) (places (s .rs))
+    pub goes : Going (problem p) (kind p) (lent p) (ending p) (leaves p) turns-left (s .c) (heldIn (places (s .rs)) (s .ns) (s .es) (places (s .xs)))
 
   abbrev Head : State → List (Item 𝓤)
   Head s = At 𝓤 H p l₀ l₁ l₂ l₃ l₄ l₅ l₆ l₇ l₈ l₉ l₁₀ l₁₁ l₁₂ l₁₃ l₁₄ l₁₅ l₁₆ l₁₇ l₁₈ l₁₉ l₂₀ l₂₁ (s .cv) (s .ns) (s .es) (s .rs) (s .xs)
@@ -545,12 +544,12 @@ module _ {M : Type 1} (𝓤 : URA M) (H : Heap 𝓤) (A : Atoms 𝓤) (W : Given
   turn-so : (t : ℕ) (s : State) → Known t s → (b : Bool) → isGoing (s .c) ≡ b → ent 𝓤 (⋆ 𝓤 H A (Head s)) (Wp 𝓤 H (𝓣 .C) (𝓣 .Λ) (E 𝓤 H l₀ l₁ l₂ l₃ l₄ l₅ l₆ l₇ l₈ l₉ l₁₀ l₁₁ l₁₂ l₁₃ l₁₄ l₁₅ l₁₆ l₁₇ l₁₈ l₁₉ l₂₀ l₂₁) pieces.turn-1 (afterTurn 𝓤 H (Below t) (Left 𝓤 H A mem run p 𝓣 l₀ l₁ l₂ l₃ l₄ l₅ l₆ l₇ l₈ l₉ l₁₀ l₁₁ l₁₂ l₁₃ l₁₄ l₁₅ l₁₆ l₁₇ l₁₈ l₁₉ l₂₀ l₂₁)))
   turn-so t s k false off =
       ends (Below t) (s .c) (s .cv) (k .is) (s .ns) (s .es) (s .rs) (s .xs) (k .same-nodes) (k .same-edges) (k .same-list) (k .same-scratch) off
-      (is-over (problem p) (kind p) (lent p) (ending p) t (s .c) (places (s .rs)) (k .goes) off) .prf
+      (is-over (problem p) (kind p) (lent p) (ending p) (leaves p) t (s .c) (heldIn (places (s .rs)) (s .ns) (s .es) (places (s .xs))) (k .goes) off) .prf
   turn-so t s k true on =
       asks-on (Below t) (s .c) (s .cv) (k .is) (s .ns) (s .es) (s .rs) (s .xs) (k .same-nodes) (k .same-edges) (k .same-list) (k .same-scratch) on
-      (omega (arith, places-length (s .rs), asks (problem p) (kind p) (lent p) (ending p) t (s .c) (places (s .rs)) (k .goes) on))
+      (omega (arith, places-length (s .rs), asks (problem p) (kind p) (lent p) (ending p) (leaves p) t (s .c) (heldIn (places (s .rs)) (s .ns) (s .es) (places (s .xs))) (k .goes) on))
       (λ r w ri ns′ es′ rs′ xs′ picked now-nodes now-edges now-list now-scratch.
-      let z = turned (problem p) (kind p) (lent p) (ending p) (places (s .rs)) (lentOf (s .ns) (s .es) (places (s .xs)))
+      let z = turned (problem p) (kind p) (lent p) (ending p) (leaves p) (heldIn (places (s .rs)) (s .ns) (s .es) (places (s .xs)))
       (same-rooms (p .nodes-now) (s .ns) (p .edges-now) (s .es) (p .scratch-now) (s .xs) (k .same-nodes) (k .same-edges) (k .same-scratch))
       r ns′ es′ (places rs′) (places xs′) t (s .c) (k .goes) on picked in
       turned-by.again 𝓤 H A W Known Head t (z .rest) (record { c = r; cv = w; ns = ns′; es = es′; rs = rs′; xs = xs′ }) (z .less)

@@ -38,8 +38,8 @@ use Rattle.jobs.specs.Run as Run
 use Rattle.pick.proofs.Rows.{ask-makes, search-makes, picked-makes}
 use Rattle.pick.proofs.pick as whole
 use Rattle.job_run.proofs.Passed.{Passed, nodes, edges, list, scratch, weights-val, profits-val, nodes-val, edges-val, list-val, scratch-val, Weights, Profits, Nodes, Edges, Listed, Scratch}
-use Rattle.job_run.proofs.search_of as search
-use Rattle.job_run.proofs.opened_of as opened
+use Rattle.search.proofs.search_of as search
+use Rattle.search.proofs.opened_of as opened
 use Rattle.job_run.proofs.largest as largest
 
 module _ {M : Type 1} (𝓤 : URA M) (H : Heap 𝓤) (A : Atoms 𝓤) (mem : Memory → SProp 𝓤) (run : Routine → Fun 𝓤) where

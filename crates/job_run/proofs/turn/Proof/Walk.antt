@@ -15,8 +15,8 @@ use prog.Routine.{Routine}
 use prog.Wp.{Heap, Env, Tables}
 use ghost.Atoms.{Atoms}
 use contract.Monad.{Fun, fact}
-use types.Kit.{Given, Item, ‵, raw, some, later, _⊛_, atRet, _$_, !, Goal, prop, runs, passes, allocs, params′, Sq, by, move, drop, group, use1, use2, split, pick, fsplit, feqL, await}
-use types.Run.{look, init, forget, stop, hop, fld, from, load, addr, assigns, and-then, no-more, land, returns, params1, pass1, pass0}
+use types.Kit.{Given, Item, ‵, raw, some, later, _⊛_, atRet, _$_, !, Goal, prop, runs, allocs, params′, Sq, by, move, drop, group, use1, use2, split, pick, fsplit, feqL, await}
+use types.Run.{look, init, forget, stop, hop, fld, from, load, addr, assigns, and-then, no-more, land, returns}
 use types.Part.{agg, whole, sub, look-in}
 use types.Tokens.{lft-new, lft-end}
 use sound.WpLaws.{fmOf}
@@ -43,17 +43,17 @@ use Rattle.search.proofs.Search.Laws as S′
 use Rattle.search.proofs.Picked as P
 use Rattle.search.proofs.Picked.Laws as P′
 use Rattle.pick.specs.Picks.{askedIn, heldIn, Picks}
-use Rattle.pick.proofs.Locals.{deaths, allocated, freed}
+use Rattle.records.proofs.Entered.{AllTyped, deaths, freed, entered as all-entered}
 use Rattle.pick.proofs.Rows.{ask-typed, search-typed, picked-typed}
 use Rattle.pick.proofs.pick as whole-pick
 use Rattle.pick.proofs.pick.Symbol.{name as #pick·pick}
 use Rattle.jobs.specs.Run as Run
 use Rattle.job_run.proofs.Turning.{picks-largest}
 use Rattle.job_run.proofs.Passed.{Passed, weights-val, profits-val, nodes-val, edges-val, list-val, scratch-val, Weights, Profits, Nodes, Edges, Listed, Scratch}
-use Rattle.job_run.proofs.search_of as search
-use Rattle.job_run.proofs.search_of.Symbol.{name as #job-run·search-of}
-use Rattle.job_run.proofs.opened_of as opened
-use Rattle.job_run.proofs.opened_of.Symbol.{name as #job-run·opened-of}
+use Rattle.search.proofs.search_of as search
+use Rattle.search.proofs.search_of.Symbol.{name as #search·search-of}
+use Rattle.search.proofs.opened_of as opened
+use Rattle.search.proofs.opened_of.Symbol.{name as #search·opened-of}
 use Rattle.job_run.proofs.largest as largest
 use Rattle.job_run.proofs.largest.Symbol.{name as #job-run·largest}
 use Rattle.job_run.proofs.turn.Code as code
@@ -100,25 +100,24 @@ shared = tyRef erased imm (pointee (T.the-row .written))
 abbrev shared-slice : Ty
 shared-slice = sliceTy shared
 
--- the locals as they are written here, which are the function's
+-- the locals behind the parameters; and all of them as they are written here, which are the function's
+abbrev others : List Local
+others = local S′.mir valueLocal ∷ local word valueLocal ∷ local word valueLocal ∷ local shared valueLocal ∷ local shared-slice valueLocal ∷ local lent valueLocal ∷ local lent-slice valueLocal ∷ local lent valueLocal ∷ local lent-slice valueLocal ∷ local record-lent valueLocal ∷ local record-slice valueLocal ∷ local record-lent valueLocal ∷ local record-slice valueLocal ∷ []
+
 abbrev pub locals : List Local
-locals = local P′.mir valueLocal ∷ local slice₀ valueLocal ∷ local slice₁ valueLocal ∷ local slice₂ valueLocal ∷ local slice₃ valueLocal ∷ local slice₄ valueLocal ∷ local slice₅ valueLocal ∷ local K′.mir valueLocal ∷ local P′.mir valueLocal ∷ local S′.mir valueLocal ∷ local word valueLocal ∷ local word valueLocal ∷ local shared valueLocal ∷ local shared-slice valueLocal ∷ local lent valueLocal ∷ local lent-slice valueLocal ∷ local lent valueLocal ∷ local lent-slice valueLocal ∷ local record-lent valueLocal ∷ local record-slice valueLocal ∷ local record-lent valueLocal ∷ local record-slice valueLocal ∷ []
+locals = local P′.mir valueLocal ∷ local slice₀ valueLocal ∷ local slice₁ valueLocal ∷ local slice₂ valueLocal ∷ local slice₃ valueLocal ∷ local slice₄ valueLocal ∷ local slice₅ valueLocal ∷ local K′.mir valueLocal ∷ local P′.mir valueLocal ∷ others
 
 pub same-locals : locals ≡ code.function .locals
 same-locals = refl
 
 module _ {M : Type 1} (𝓤 : URA M) (H : Heap 𝓤) (A : Atoms 𝓤) (W : Given 𝓤 H A) (mem : Memory → SProp 𝓤) (run : Routine → Fun 𝓤) (p : Passed) (c : Picked) (cv : Val) (ci : Is P.the-row c (cv ∷ [])) (enough : c .search .opened ≤ length (p .list-now)) (𝓣 : Tables 𝓤 H)
-    (known-search : Triple 𝓤 (𝓣 .C #job-run·search-of) (SearchC 𝓤 H A mem run))
-    (known-opened : Triple 𝓤 (𝓣 .C #job-run·opened-of) (OpenedC 𝓤 H A mem run))
+    (known-search : Triple 𝓤 (𝓣 .C #search·search-of) (SearchC 𝓤 H A mem run))
+    (known-opened : Triple 𝓤 (𝓣 .C #search·opened-of) (OpenedC 𝓤 H A mem run))
     (known-largest : Triple 𝓤 (𝓣 .C #job-run·largest) (LargestC 𝓤 H A mem run))
     (known-pick : Triple 𝓤 (𝓣 .C #pick·pick) (PickC 𝓤 H A mem run))
     (l₀ l₁ l₂ l₃ l₄ l₅ l₆ l₇ l₈ l₉ l₁₀ l₁₁ l₁₂ l₁₃ l₁₄ l₁₅ l₁₆ l₁₇ l₁₈ l₁₉ l₂₀ l₂₁ : ℕ) where
-  -- the locals after the result, and all of them
-  abbrev pub E₁ : Env 𝓤 H
-  E₁ = (slice₀, l₁) ∷ (slice₁, l₂) ∷ (slice₂, l₃) ∷ (slice₃, l₄) ∷ (slice₄, l₅) ∷ (slice₅, l₆) ∷ (K′.mir, l₇) ∷ (P′.mir, l₈) ∷ (S′.mir, l₉) ∷ (word, l₁₀) ∷ (word, l₁₁) ∷ (shared, l₁₂) ∷ (shared-slice, l₁₃) ∷ (lent, l₁₄) ∷ (lent-slice, l₁₅) ∷ (lent, l₁₆) ∷ (lent-slice, l₁₇) ∷ (record-lent, l₁₈) ∷ (record-slice, l₁₉) ∷ (record-lent, l₂₀) ∷ (record-slice, l₂₁) ∷ []
-
   abbrev pub E : Env 𝓤 H
-  E = (P′.mir, l₀) ∷ E₁
+  E = (P′.mir, l₀) ∷ (slice₀, l₁) ∷ (slice₁, l₂) ∷ (slice₂, l₃) ∷ (slice₃, l₄) ∷ (slice₄, l₅) ∷ (slice₅, l₆) ∷ (K′.mir, l₇) ∷ (P′.mir, l₈) ∷ (S′.mir, l₉) ∷ (word, l₁₀) ∷ (word, l₁₁) ∷ (shared, l₁₂) ∷ (shared-slice, l₁₃) ∷ (lent, l₁₄) ∷ (lent-slice, l₁₅) ∷ (lent, l₁₆) ∷ (lent-slice, l₁₇) ∷ (record-lent, l₁₈) ∷ (record-slice, l₁₉) ∷ (record-lent, l₂₀) ∷ (record-slice, l₂₁) ∷ []
 
   module _ (r : Picked) (w : Val) (ri : Is P.the-row r (w ∷ [])) (ns es : List ℕ) (rs xs : List Record) (kept : Promise p c cv r ns es rs xs) (same-nodes : length ns ≡ length (p .nodes-now)) (same-edges : length es ≡ length (p .edges-now)) (same-list : length rs ≡ length (p .list-now)) (same-scratch : length xs ≡ length (p .scratch-now)) where
     -- the answer is in its local
@@ -454,58 +453,9 @@ module _ {M : Type 1} (𝓤 : URA M) (H : Heap 𝓤) (A : Atoms 𝓤) (W : Given
       land ! (from ! (stop !)) (init ! 23 refl (search-typed 𝓤 H A W s sv si)) $ drop ! $ forget ! 21 refl $
       counts s sv si searched))))
 
-  -- the locals are there, and the arguments are stored
-  abbrev pub Entered : List (Item 𝓤)
-  Entered =
-      ‵ (flft (p .κ₀) (p .q₀))
-      ∷ ‵ (flft (p .κ₁) (p .q₁))
-      ∷ ‵ (flft (p .κ₂) (p .q₂))
-      ∷ ‵ (flft (p .κ₃) (p .q₃))
-      ∷ ‵ (flft (p .κ₄) (p .q₄))
-      ∷ ‵ (flft (p .κ₅) (p .q₅))
-      ∷ ‵ (Weights p)
-      ∷ ‵ (Profits p)
-      ∷ ‵ (Nodes p (p .nodes-now))
-      ∷ ‵ (Edges p (p .edges-now))
-      ∷ ‵ (Listed p (p .list-now))
-      ∷ ‵ (Scratch p (p .scratch-now))
-      ∷ deaths 𝓤 H E
-      ∷ ‵ (froom P′.mir l₀ 0)
-      ∷ ‵ (froom slice₀ l₁ 0)
-      ∷ ‵ (froom slice₁ l₂ 0)
-      ∷ ‵ (froom slice₂ l₃ 0)
-      ∷ ‵ (froom slice₃ l₄ 0)
-      ∷ ‵ (froom slice₄ l₅ 0)
-      ∷ ‵ (froom slice₅ l₆ 0)
-      ∷ ‵ (froom K′.mir l₇ 0)
-      ∷ ‵ (froom P′.mir l₈ 0)
-      ∷ ‵ (froom S′.mir l₉ 0)
-      ∷ ‵ (froom word l₁₀ 0)
-      ∷ ‵ (froom word l₁₁ 0)
-      ∷ ‵ (froom shared l₁₂ 0)
-      ∷ ‵ (froom shared-slice l₁₃ 0)
-      ∷ ‵ (froom lent l₁₄ 0)
-      ∷ ‵ (froom lent-slice l₁₅ 0)
-      ∷ ‵ (froom lent l₁₆ 0)
-      ∷ ‵ (froom lent-slice l₁₇ 0)
-      ∷ ‵ (froom record-lent l₁₈ 0)
-      ∷ ‵ (froom record-slice l₁₉ 0)
-      ∷ ‵ (froom record-lent l₂₀ 0)
-      ∷ ‵ (froom record-slice l₂₁ 0)
-      ∷ ‵ ftrue
-      ∷ []
-
-  pub passed : Sq W Entered (passes E₁ (weights-val p ∷ profits-val p ∷ nodes-val p ∷ edges-val p ∷ list-val p ∷ scratch-val p ∷ p .ask-val ∷ cv ∷ []) (runs (𝓣 .C) (𝓣 .Λ) E pieces.t-1 (atRet E (Post 𝓤 H A mem run p c cv ci))))
-  passed =
-      pass1 ! (init ! 14 refl (tt, (tt, (record { fits = p .weights-room .0 }, tt)))) $ pass1 ! (init ! 15 refl (tt, (tt, (record { fits = p .profits-room .0 }, tt)))) $
-      pass1 ! (init ! 16 refl (tt, (tt, (record { fits = p .nodes-room .0 }, tt)))) $ pass1 ! (init ! 17 refl (tt, (tt, (record { fits = p .edges-room .0 }, tt)))) $
-      pass1 ! (init ! 18 refl (tt, (tt, (record { fits = p .list-room .0 }, tt)))) $ pass1 ! (init ! 19 refl (tt, (tt, (record { fits = p .scratch-room .0 }, tt)))) $
-      pass1 ! (init ! 20 refl (ask-typed 𝓤 H A W (p .ask) (p .ask-val) (p .ask-is))) $ pass1 ! (init ! 21 refl (picked-typed 𝓤 H A W c cv ci)) $ pass0 ! $
-      begun
-
 module _ {M : Type 1} (𝓤 : URA M) (H : Heap 𝓤) (A : Atoms 𝓤) (W : Given 𝓤 H A) (mem : Memory → SProp 𝓤) (run : Routine → Fun 𝓤) (p : Passed) (c : Picked) (cv : Val) (ci : Is P.the-row c (cv ∷ [])) (enough : c .search .opened ≤ length (p .list-now)) (𝓣 : Tables 𝓤 H)
-    (known-search : Triple 𝓤 (𝓣 .C #job-run·search-of) (SearchC 𝓤 H A mem run))
-    (known-opened : Triple 𝓤 (𝓣 .C #job-run·opened-of) (OpenedC 𝓤 H A mem run))
+    (known-search : Triple 𝓤 (𝓣 .C #search·search-of) (SearchC 𝓤 H A mem run))
+    (known-opened : Triple 𝓤 (𝓣 .C #search·opened-of) (OpenedC 𝓤 H A mem run))
     (known-largest : Triple 𝓤 (𝓣 .C #job-run·largest) (LargestC 𝓤 H A mem run))
     (known-pick : Triple 𝓤 (𝓣 .C #pick·pick) (PickC 𝓤 H A mem run)) where
   abbrev pub Taken : List (Item 𝓤)
@@ -514,8 +464,15 @@ module _ {M : Type 1} (𝓤 : URA M) (H : Heap 𝓤) (A : Atoms 𝓤) (W : Given
   abbrev pub Runs : Env 𝓤 H → Goal 𝓤 H
   Runs E = params′ E (weights-val p ∷ profits-val p ∷ nodes-val p ∷ edges-val p ∷ list-val p ∷ scratch-val p ∷ p .ask-val ∷ cv ∷ []) (runs (𝓣 .C) (𝓣 .Λ) E pieces.t-1 (atRet E (Post 𝓤 H A mem run p c cv ci)))
 
+  -- the parameters with their machine values
+  abbrev passed-in : List (Ty × Val)
+  passed-in = (slice₀, weights-val p) ∷ (slice₁, profits-val p) ∷ (slice₂, nodes-val p) ∷ (slice₃, edges-val p) ∷ (slice₄, list-val p) ∷ (slice₅, scratch-val p) ∷ (K′.mir, p .ask-val) ∷ (P′.mir, cv) ∷ []
+
+  passed-typed : AllTyped passed-in
+  passed-typed = ((tt, (tt, (record { fits = p .weights-room .0 }, tt))), ((tt, (tt, (record { fits = p .profits-room .0 }, tt))), ((tt, (tt, (record { fits = p .nodes-room .0 }, tt))), ((tt, (tt, (record { fits = p .edges-room .0 }, tt))), ((tt, (tt, (record { fits = p .list-room .0 }, tt))), ((tt, (tt, (record { fits = p .scratch-room .0 }, tt))), (ask-typed 𝓤 H A W (p .ask) (p .ask-val) (p .ask-is), (picked-typed 𝓤 H A W c cv ci, tt))))))))
+
   pub entered : Sq W Taken (allocs locals Runs)
   entered =
-      allocated W Taken locals Runs (λ bs. params1 ! $
+      all-entered W (𝓣 .C) (𝓣 .Λ) P′.mir passed-in others valueLocal pieces.t-1 Taken (Post 𝓤 H A mem run p c cv ci) passed-typed (λ b bs.
       move ! (2 ∷ 3 ∷ 4 ∷ 5 ∷ 6 ∷ 7 ∷ 8 ∷ 9 ∷ 10 ∷ 11 ∷ 12 ∷ 13 ∷ 1 ∷ 0 ∷ []) $
-      by ! (passed 𝓤 H A W mem run p c cv ci enough 𝓣 known-search known-opened known-largest known-pick (bs .0) (bs .1 .0) (bs .1 .1 .0) (bs .1 .1 .1 .0) (bs .1 .1 .1 .1 .0) (bs .1 .1 .1 .1 .1 .0) (bs .1 .1 .1 .1 .1 .1 .0) (bs .1 .1 .1 .1 .1 .1 .1 .0) (bs .1 .1 .1 .1 .1 .1 .1 .1 .0) (bs .1 .1 .1 .1 .1 .1 .1 .1 .1 .0) (bs .1 .1 .1 .1 .1 .1 .1 .1 .1 .1 .0) (bs .1 .1 .1 .1 .1 .1 .1 .1 .1 .1 .1 .0) (bs .1 .1 .1 .1 .1 .1 .1 .1 .1 .1 .1 .1 .0) (bs .1 .1 .1 .1 .1 .1 .1 .1 .1 .1 .1 .1 .1 .0) (bs .1 .1 .1 .1 .1 .1 .1 .1 .1 .1 .1 .1 .1 .1 .0) (bs .1 .1 .1 .1 .1 .1 .1 .1 .1 .1 .1 .1 .1 .1 .1 .0) (bs .1 .1 .1 .1 .1 .1 .1 .1 .1 .1 .1 .1 .1 .1 .1 .1 .0) (bs .1 .1 .1 .1 .1 .1 .1 .1 .1 .1 .1 .1 .1 .1 .1 .1 .1 .0) (bs .1 .1 .1 .1 .1 .1 .1 .1 .1 .1 .1 .1 .1 .1 .1 .1 .1 .1 .0) (bs .1 .1 .1 .1 .1 .1 .1 .1 .1 .1 .1 .1 .1 .1 .1 .1 .1 .1 .1 .0) (bs .1 .1 .1 .1 .1 .1 .1 .1 .1 .1 .1 .1 .1 .1 .1 .1 .1 .1 .1 .1 .0) (bs .1 .1 .1 .1 .1 .1 .1 .1 .1 .1 .1 .1 .1 .1 .1 .1 .1 .1 .1 .1 .1 .0) .prf))
+      by ! (begun 𝓤 H A W mem run p c cv ci enough 𝓣 known-search known-opened known-largest known-pick b (bs .0) (bs .1 .0) (bs .1 .1 .0) (bs .1 .1 .1 .0) (bs .1 .1 .1 .1 .0) (bs .1 .1 .1 .1 .1 .0) (bs .1 .1 .1 .1 .1 .1 .0) (bs .1 .1 .1 .1 .1 .1 .1 .0) (bs .1 .1 .1 .1 .1 .1 .1 .1 .0) (bs .1 .1 .1 .1 .1 .1 .1 .1 .1 .0) (bs .1 .1 .1 .1 .1 .1 .1 .1 .1 .1 .0) (bs .1 .1 .1 .1 .1 .1 .1 .1 .1 .1 .1 .0) (bs .1 .1 .1 .1 .1 .1 .1 .1 .1 .1 .1 .1 .0) (bs .1 .1 .1 .1 .1 .1 .1 .1 .1 .1 .1 .1 .1 .0) (bs .1 .1 .1 .1 .1 .1 .1 .1 .1 .1 .1 .1 .1 .1 .0) (bs .1 .1 .1 .1 .1 .1 .1 .1 .1 .1 .1 .1 .1 .1 .1 .0) (bs .1 .1 .1 .1 .1 .1 .1 .1 .1 .1 .1 .1 .1 .1 .1 .1 .0) (bs .1 .1 .1 .1 .1 .1 .1 .1 .1 .1 .1 .1 .1 .1 .1 .1 .1 .0) (bs .1 .1 .1 .1 .1 .1 .1 .1 .1 .1 .1 .1 .1 .1 .1 .1 .1 .1 .0) (bs .1 .1 .1 .1 .1 .1 .1 .1 .1 .1 .1 .1 .1 .1 .1 .1 .1 .1 .1 .0) (bs .1 .1 .1 .1 .1 .1 .1 .1 .1 .1 .1 .1 .1 .1 .1 .1 .1 .1 .1 .1 .0) .prf))

@@ -40,17 +40,17 @@ use Rattle.search.specs.Asked.{problemOf}
 use Rattle.search.proofs.Search as S
 use Rattle.search.specs.declared.Ask.{Ask}
 use Rattle.compile_records.specs.declared.Query.{Query}
-use Rattle.pick.specs.declared.Tally.{Tally}
-use Rattle.pick.specs.Steps.{numbersOf, queryFrom, tallyOf}
+use Rattle.pick_steps.specs.declared.Tally.{Tally}
+use Rattle.pick_steps.specs.Steps.{numbersOf, queryFrom, tallyOf}
 use Rattle.pick.specs.Settled.{Settling}
 use Rattle.search.proofs.Ask as K
 use Rattle.compile_records.proofs.Query as Q
-use Rattle.pick.proofs.Tally as Y
+use Rattle.pick_steps.proofs.Tally as Y
 use Rattle.records.proofs.get as get
-use Rattle.pick.proofs.verdict_of as judge
-use Rattle.pick.proofs.query_of as query
+use Rattle.pick_steps.proofs.verdict_of as judge
+use Rattle.pick_steps.proofs.query_of as query
 use Rattle.pick.proofs.compile_if as compile
-use Rattle.pick.proofs.tallied as tally
+use Rattle.pick_steps.proofs.tallied as tally
 use Rattle.pick.proofs.settled as settle
 use Rattle.pick.proofs.Rows.{ask-makes, record-makes, verdict-makes, query-makes, answer-makes, tally-makes, search-makes}
 

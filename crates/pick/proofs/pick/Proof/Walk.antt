@@ -14,8 +14,8 @@ use prog.Routine.{Routine}
 use prog.Wp.{Heap, Env, Tables}
 use ghost.Atoms.{Atoms}
 use contract.Monad.{Fun, fact}
-use types.Kit.{Given, Item, ‵, raw, some, later, _⊛_, atRet, _$_, !, Goal, prop, runs, passes, allocs, params′, Sq, by, move, drop, group, use1, use2, use3, split, pick, fsplit, feqL, await}
-use types.Run.{look, init, forget, stop, hop, fld, from, load, of-opd, addr, assigns, and-then, no-more, land, returns, params1, pass1, pass0}
+use types.Kit.{Given, Item, ‵, raw, some, later, _⊛_, atRet, _$_, !, Goal, prop, runs, allocs, params′, Sq, by, move, drop, group, use1, use2, use3, split, pick, fsplit, feqL, await}
+use types.Run.{look, init, forget, stop, hop, fld, from, load, of-opd, addr, assigns, and-then, no-more, land, returns}
 use types.Part.{agg, whole, sub, look-in}
 use types.Tokens.{lft-new, lft-end}
 use sound.WpLaws.{fmOf}
@@ -46,29 +46,30 @@ use Rattle.search.proofs.Search.Laws as S′
 use Rattle.search.proofs.Picked as P
 use Rattle.search.proofs.Picked.Laws as P′
 use Rattle.compile_records.specs.declared.Query.{Query}
-use Rattle.pick.specs.declared.Tally.{Tally}
+use Rattle.pick_steps.specs.declared.Tally.{Tally}
 use Rattle.compile_records.specs.Queried.{askedBy, lentOf, Compiles}
-use Rattle.pick.specs.Steps.{numbersOf, queryFrom, wanted, compileIf, tallyOf}
+use Rattle.pick_steps.specs.Steps.{numbersOf, queryFrom, wanted, tallyOf}
+use Rattle.pick.specs.Compiled.{compileIf}
 use Rattle.pick.specs.Settled as Ending
 use Rattle.pick.specs.Settled.{Settles}
 use Rattle.pick.proofs.Whole.{Stepped, ends, picks}
 use Rattle.records.proofs.Again.{LentAgain, lends-again, comes-back, SharedAgain, shares-again, unshared}
-use Rattle.pick.proofs.Locals.{deaths, allocated, freed}
+use Rattle.records.proofs.Entered.{AllTyped, deaths, freed, entered as all-entered}
 use Rattle.search.proofs.Ask.Laws as K′
 use Rattle.compile_records.proofs.Query as Q
 use Rattle.compile_records.proofs.Query.Laws as Q′
-use Rattle.pick.proofs.Tally as Y
-use Rattle.pick.proofs.Tally.Laws as Y′
+use Rattle.pick_steps.proofs.Tally as Y
+use Rattle.pick_steps.proofs.Tally.Laws as Y′
 use Rattle.records.proofs.get as get
 use Rattle.records.proofs.get.Symbol.{name as #records·get}
-use Rattle.pick.proofs.verdict_of as judge
-use Rattle.pick.proofs.verdict_of.Symbol.{name as #pick·verdict-of}
-use Rattle.pick.proofs.query_of as query
-use Rattle.pick.proofs.query_of.Symbol.{name as #pick·query-of}
+use Rattle.pick_steps.proofs.verdict_of as judge
+use Rattle.pick_steps.proofs.verdict_of.Symbol.{name as #pick-steps·verdict-of}
+use Rattle.pick_steps.proofs.query_of as query
+use Rattle.pick_steps.proofs.query_of.Symbol.{name as #pick-steps·query-of}
 use Rattle.pick.proofs.compile_if as compile
 use Rattle.pick.proofs.compile_if.Symbol.{name as #pick·compile-if}
-use Rattle.pick.proofs.tallied as tally
-use Rattle.pick.proofs.tallied.Symbol.{name as #pick·tallied}
+use Rattle.pick_steps.proofs.tallied as tally
+use Rattle.pick_steps.proofs.tallied.Symbol.{name as #pick-steps·tallied}
 use Rattle.pick.proofs.settled as settle
 use Rattle.pick.proofs.settled.Symbol.{name as #pick·settled}
 use Rattle.pick.proofs.pick.Code as code
@@ -116,27 +117,26 @@ record-lent = tyRef erased mut (pointee (T.the-row .written))
 abbrev record-slice : Ty
 record-slice = sliceTy record-lent
 
--- the locals as they are written here, which are the function's
+-- the locals behind the parameters; and all of them as they are written here, which are the function's
+abbrev others : List Local
+others = local word valueLocal ∷ local T′.mir valueLocal ∷ local Vd′.mir valueLocal ∷ local Q′.mir valueLocal ∷ local An′.mir valueLocal ∷ local Y′.mir valueLocal ∷ local shared valueLocal ∷ local shared-slice valueLocal ∷ local lent valueLocal ∷ local lent-slice valueLocal ∷ local lent valueLocal ∷ local lent-slice valueLocal ∷ local record-lent valueLocal ∷ local record-slice valueLocal ∷ local record-lent valueLocal ∷ local record-slice valueLocal ∷ local shared valueLocal ∷ local shared-slice valueLocal ∷ []
+
 abbrev pub locals : List Local
-locals = local P′.mir valueLocal ∷ local slice₀ valueLocal ∷ local slice₁ valueLocal ∷ local slice₂ valueLocal ∷ local slice₃ valueLocal ∷ local slice₄ valueLocal ∷ local slice₅ valueLocal ∷ local K′.mir valueLocal ∷ local word valueLocal ∷ local S′.mir valueLocal ∷ local word valueLocal ∷ local T′.mir valueLocal ∷ local Vd′.mir valueLocal ∷ local Q′.mir valueLocal ∷ local An′.mir valueLocal ∷ local Y′.mir valueLocal ∷ local shared valueLocal ∷ local shared-slice valueLocal ∷ local lent valueLocal ∷ local lent-slice valueLocal ∷ local lent valueLocal ∷ local lent-slice valueLocal ∷ local record-lent valueLocal ∷ local record-slice valueLocal ∷ local record-lent valueLocal ∷ local record-slice valueLocal ∷ local shared valueLocal ∷ local shared-slice valueLocal ∷ []
+locals = local P′.mir valueLocal ∷ local slice₀ valueLocal ∷ local slice₁ valueLocal ∷ local slice₂ valueLocal ∷ local slice₃ valueLocal ∷ local slice₄ valueLocal ∷ local slice₅ valueLocal ∷ local K′.mir valueLocal ∷ local word valueLocal ∷ local S′.mir valueLocal ∷ others
 
 pub same-locals : locals ≡ code.function .locals
 same-locals = refl
 
 module _ {M : Type 1} (𝓤 : URA M) (H : Heap 𝓤) (A : Atoms 𝓤) (W : Given 𝓤 H A) (mem : Memory → SProp 𝓤) (run : Routine → Fun 𝓤) (p : Passed) (𝓣 : Tables 𝓤 H)
     (known-get : Triple 𝓤 (𝓣 .C #records·get) (Get 𝓤 H A mem run))
-    (known-verdict : Triple 𝓤 (𝓣 .C #pick·verdict-of) (Judge 𝓤 H A mem run))
-    (known-query : Triple 𝓤 (𝓣 .C #pick·query-of) (Queried 𝓤 H A mem run))
+    (known-verdict : Triple 𝓤 (𝓣 .C #pick-steps·verdict-of) (Judge 𝓤 H A mem run))
+    (known-query : Triple 𝓤 (𝓣 .C #pick-steps·query-of) (Queried 𝓤 H A mem run))
     (known-compile : Triple 𝓤 (𝓣 .C #pick·compile-if) (CompileIf 𝓤 H A mem run))
-    (known-tallied : Triple 𝓤 (𝓣 .C #pick·tallied) (Tallied 𝓤 H A mem run))
+    (known-tallied : Triple 𝓤 (𝓣 .C #pick-steps·tallied) (Tallied 𝓤 H A mem run))
     (known-settled : Triple 𝓤 (𝓣 .C #pick·settled) (Settled 𝓤 H A mem run))
     (l₀ l₁ l₂ l₃ l₄ l₅ l₆ l₇ l₈ l₉ l₁₀ l₁₁ l₁₂ l₁₃ l₁₄ l₁₅ l₁₆ l₁₇ l₁₈ l₁₉ l₂₀ l₂₁ l₂₂ l₂₃ l₂₄ l₂₅ l₂₆ l₂₇ : ℕ) where
-  -- the locals after the result, and all of them
-  abbrev pub E₁ : Env 𝓤 H
-  E₁ = (slice₀, l₁) ∷ (slice₁, l₂) ∷ (slice₂, l₃) ∷ (slice₃, l₄) ∷ (slice₄, l₅) ∷ (slice₅, l₆) ∷ (K′.mir, l₇) ∷ (word, l₈) ∷ (S′.mir, l₉) ∷ (word, l₁₀) ∷ (T′.mir, l₁₁) ∷ (Vd′.mir, l₁₂) ∷ (Q′.mir, l₁₃) ∷ (An′.mir, l₁₄) ∷ (Y′.mir, l₁₅) ∷ (shared, l₁₆) ∷ (shared-slice, l₁₇) ∷ (lent, l₁₈) ∷ (lent-slice, l₁₉) ∷ (lent, l₂₀) ∷ (lent-slice, l₂₁) ∷ (record-lent, l₂₂) ∷ (record-slice, l₂₃) ∷ (record-lent, l₂₄) ∷ (record-slice, l₂₅) ∷ (shared, l₂₆) ∷ (shared-slice, l₂₇) ∷ []
-
   abbrev pub E : Env 𝓤 H
-  E = (P′.mir, l₀) ∷ E₁
+  E = (P′.mir, l₀) ∷ (slice₀, l₁) ∷ (slice₁, l₂) ∷ (slice₂, l₃) ∷ (slice₃, l₄) ∷ (slice₄, l₅) ∷ (slice₅, l₆) ∷ (K′.mir, l₇) ∷ (word, l₈) ∷ (S′.mir, l₉) ∷ (word, l₁₀) ∷ (T′.mir, l₁₁) ∷ (Vd′.mir, l₁₂) ∷ (Q′.mir, l₁₃) ∷ (An′.mir, l₁₄) ∷ (Y′.mir, l₁₅) ∷ (shared, l₁₆) ∷ (shared-slice, l₁₇) ∷ (lent, l₁₈) ∷ (lent-slice, l₁₉) ∷ (lent, l₂₀) ∷ (lent-slice, l₂₁) ∷ (record-lent, l₂₂) ∷ (record-slice, l₂₃) ∷ (record-lent, l₂₄) ∷ (record-slice, l₂₅) ∷ (shared, l₂₆) ∷ (shared-slice, l₂₇) ∷ []
 
   module _ (c : Picked) (w : Val) (ci : Is P.the-row c (w ∷ [])) (ns es : List ℕ) (rs xs : List Record) (kept : Promise p c ns es rs xs) (same-nodes : length ns ≡ length (p .nodes .now)) (same-edges : length es ≡ length (p .edges .now)) (same-list : length rs ≡ length (p .list-now)) (same-scratch : length xs ≡ length (p .scratch-now)) where
     -- the answer is in its local
@@ -698,68 +698,12 @@ module _ {M : Type 1} (𝓤 : URA M) (H : Heap 𝓤) (A : Atoms 𝓤) (W : Given
       forget ! 29 refl $ forget ! 30 refl $
       gone r rv ri got))))))
 
-  -- the locals are there, and the arguments are stored
-  abbrev pub Entered : List (Item 𝓤)
-  Entered =
-      ‵ (flft (p .κ₀) (p .q₀))
-      ∷ ‵ (flft (p .κ₁) (p .q₁))
-      ∷ ‵ (flft (p .κ₂) (p .q₂))
-      ∷ ‵ (flft (p .κ₃) (p .q₃))
-      ∷ ‵ (flft (p .κ₄) (p .q₄))
-      ∷ ‵ (flft (p .κ₅) (p .q₅))
-      ∷ ‵ (Weights p)
-      ∷ ‵ (Profits p)
-      ∷ ‵ (Nodes p)
-      ∷ ‵ (Edges p)
-      ∷ ‵ (Listed p)
-      ∷ ‵ (Scratch p (p .scratch-now))
-      ∷ deaths 𝓤 H E
-      ∷ ‵ (froom P′.mir l₀ 0)
-      ∷ ‵ (froom slice₀ l₁ 0)
-      ∷ ‵ (froom slice₁ l₂ 0)
-      ∷ ‵ (froom slice₂ l₃ 0)
-      ∷ ‵ (froom slice₃ l₄ 0)
-      ∷ ‵ (froom slice₄ l₅ 0)
-      ∷ ‵ (froom slice₅ l₆ 0)
-      ∷ ‵ (froom K′.mir l₇ 0)
-      ∷ ‵ (froom word l₈ 0)
-      ∷ ‵ (froom S′.mir l₉ 0)
-      ∷ ‵ (froom word l₁₀ 0)
-      ∷ ‵ (froom T′.mir l₁₁ 0)
-      ∷ ‵ (froom Vd′.mir l₁₂ 0)
-      ∷ ‵ (froom Q′.mir l₁₃ 0)
-      ∷ ‵ (froom An′.mir l₁₄ 0)
-      ∷ ‵ (froom Y′.mir l₁₅ 0)
-      ∷ ‵ (froom shared l₁₆ 0)
-      ∷ ‵ (froom shared-slice l₁₇ 0)
-      ∷ ‵ (froom lent l₁₈ 0)
-      ∷ ‵ (froom lent-slice l₁₉ 0)
-      ∷ ‵ (froom lent l₂₀ 0)
-      ∷ ‵ (froom lent-slice l₂₁ 0)
-      ∷ ‵ (froom record-lent l₂₂ 0)
-      ∷ ‵ (froom record-slice l₂₃ 0)
-      ∷ ‵ (froom record-lent l₂₄ 0)
-      ∷ ‵ (froom record-slice l₂₅ 0)
-      ∷ ‵ (froom shared l₂₆ 0)
-      ∷ ‵ (froom shared-slice l₂₇ 0)
-      ∷ ‵ ftrue
-      ∷ []
-
-  pub passed : Sq W Entered (passes E₁ (weights-val p ∷ profits-val p ∷ nodes-val p ∷ edges-val p ∷ list-val p ∷ scratch-val p ∷ p .ask-val ∷ vint w64 (p .place) ∷ p .search-val ∷ []) (runs (𝓣 .C) (𝓣 .Λ) E pieces.t-1 (atRet E (Post 𝓤 H A mem run p))))
-  passed =
-      pass1 ! (init ! 14 refl (tt, (tt, (record { fits = p .weights-room .0 }, tt)))) $ pass1 ! (init ! 15 refl (tt, (tt, (record { fits = p .profits-room .0 }, tt)))) $
-      pass1 ! (init ! 16 refl (tt, (tt, (record { fits = p .nodes-room .0 }, tt)))) $ pass1 ! (init ! 17 refl (tt, (tt, (record { fits = p .edges-room .0 }, tt)))) $
-      pass1 ! (init ! 18 refl (tt, (tt, (record { fits = p .list-room .0 }, tt)))) $ pass1 ! (init ! 19 refl (tt, (tt, (record { fits = p .scratch-room .0 }, tt)))) $
-      pass1 ! (init ! 20 refl (ask-typed 𝓤 H A W (p .ask) (p .ask-val) (p .ask-is))) $ pass1 ! (init ! 21 refl (tt, record { fits = p .place-fits })) $
-      pass1 ! (init ! 22 refl (search-typed 𝓤 H A W (p .search) (p .search-val) (p .search-is))) $ pass0 ! $
-      begun
-
 module _ {M : Type 1} (𝓤 : URA M) (H : Heap 𝓤) (A : Atoms 𝓤) (W : Given 𝓤 H A) (mem : Memory → SProp 𝓤) (run : Routine → Fun 𝓤) (p : Passed) (𝓣 : Tables 𝓤 H)
     (known-get : Triple 𝓤 (𝓣 .C #records·get) (Get 𝓤 H A mem run))
-    (known-verdict : Triple 𝓤 (𝓣 .C #pick·verdict-of) (Judge 𝓤 H A mem run))
-    (known-query : Triple 𝓤 (𝓣 .C #pick·query-of) (Queried 𝓤 H A mem run))
+    (known-verdict : Triple 𝓤 (𝓣 .C #pick-steps·verdict-of) (Judge 𝓤 H A mem run))
+    (known-query : Triple 𝓤 (𝓣 .C #pick-steps·query-of) (Queried 𝓤 H A mem run))
     (known-compile : Triple 𝓤 (𝓣 .C #pick·compile-if) (CompileIf 𝓤 H A mem run))
-    (known-tallied : Triple 𝓤 (𝓣 .C #pick·tallied) (Tallied 𝓤 H A mem run))
+    (known-tallied : Triple 𝓤 (𝓣 .C #pick-steps·tallied) (Tallied 𝓤 H A mem run))
     (known-settled : Triple 𝓤 (𝓣 .C #pick·settled) (Settled 𝓤 H A mem run)) where
   abbrev pub Taken : List (Item 𝓤)
   Taken = ‵ (flft (p .κ₀) (p .q₀)) ∷ ‵ (flft (p .κ₁) (p .q₁)) ∷ ‵ (flft (p .κ₂) (p .q₂)) ∷ ‵ (flft (p .κ₃) (p .q₃)) ∷ ‵ (flft (p .κ₄) (p .q₄)) ∷ ‵ (flft (p .κ₅) (p .q₅)) ∷ ‵ (Weights p) ∷ ‵ (Profits p) ∷ ‵ (Nodes p) ∷ ‵ (Edges p) ∷ ‵ (Listed p) ∷ ‵ (Scratch p (p .scratch-now)) ∷ []
@@ -767,8 +711,15 @@ module _ {M : Type 1} (𝓤 : URA M) (H : Heap 𝓤) (A : Atoms 𝓤) (W : Given
   abbrev pub Runs : Env 𝓤 H → Goal 𝓤 H
   Runs E = params′ E (weights-val p ∷ profits-val p ∷ nodes-val p ∷ edges-val p ∷ list-val p ∷ scratch-val p ∷ p .ask-val ∷ vint w64 (p .place) ∷ p .search-val ∷ []) (runs (𝓣 .C) (𝓣 .Λ) E pieces.t-1 (atRet E (Post 𝓤 H A mem run p)))
 
+  -- the parameters with their machine values
+  abbrev passed-in : List (Ty × Val)
+  passed-in = (slice₀, weights-val p) ∷ (slice₁, profits-val p) ∷ (slice₂, nodes-val p) ∷ (slice₃, edges-val p) ∷ (slice₄, list-val p) ∷ (slice₅, scratch-val p) ∷ (K′.mir, p .ask-val) ∷ (word, vint w64 (p .place)) ∷ (S′.mir, p .search-val) ∷ []
+
+  passed-typed : AllTyped passed-in
+  passed-typed = ((tt, (tt, (record { fits = p .weights-room .0 }, tt))), ((tt, (tt, (record { fits = p .profits-room .0 }, tt))), ((tt, (tt, (record { fits = p .nodes-room .0 }, tt))), ((tt, (tt, (record { fits = p .edges-room .0 }, tt))), ((tt, (tt, (record { fits = p .list-room .0 }, tt))), ((tt, (tt, (record { fits = p .scratch-room .0 }, tt))), (ask-typed 𝓤 H A W (p .ask) (p .ask-val) (p .ask-is), ((tt, record { fits = p .place-fits }), (search-typed 𝓤 H A W (p .search) (p .search-val) (p .search-is), tt)))))))))
+
   pub entered : Sq W Taken (allocs locals Runs)
   entered =
-      allocated W Taken locals Runs (λ bs. params1 ! $
+      all-entered W (𝓣 .C) (𝓣 .Λ) P′.mir passed-in others valueLocal pieces.t-1 Taken (Post 𝓤 H A mem run p) passed-typed (λ b bs.
       move ! (2 ∷ 3 ∷ 4 ∷ 5 ∷ 6 ∷ 7 ∷ 8 ∷ 9 ∷ 10 ∷ 11 ∷ 12 ∷ 13 ∷ 1 ∷ 0 ∷ []) $
-      by ! (passed 𝓤 H A W mem run p 𝓣 known-get known-verdict known-query known-compile known-tallied known-settled (bs .0) (bs .1 .0) (bs .1 .1 .0) (bs .1 .1 .1 .0) (bs .1 .1 .1 .1 .0) (bs .1 .1 .1 .1 .1 .0) (bs .1 .1 .1 .1 .1 .1 .0) (bs .1 .1 .1 .1 .1 .1 .1 .0) (bs .1 .1 .1 .1 .1 .1 .1 .1 .0) (bs .1 .1 .1 .1 .1 .1 .1 .1 .1 .0) (bs .1 .1 .1 .1 .1 .1 .1 .1 .1 .1 .0) (bs .1 .1 .1 .1 .1 .1 .1 .1 .1 .1 .1 .0) (bs .1 .1 .1 .1 .1 .1 .1 .1 .1 .1 .1 .1 .0) (bs .1 .1 .1 .1 .1 .1 .1 .1 .1 .1 .1 .1 .1 .0) (bs .1 .1 .1 .1 .1 .1 .1 .1 .1 .1 .1 .1 .1 .1 .0) (bs .1 .1 .1 .1 .1 .1 .1 .1 .1 .1 .1 .1 .1 .1 .1 .0) (bs .1 .1 .1 .1 .1 .1 .1 .1 .1 .1 .1 .1 .1 .1 .1 .1 .0) (bs .1 .1 .1 .1 .1 .1 .1 .1 .1 .1 .1 .1 .1 .1 .1 .1 .1 .0) (bs .1 .1 .1 .1 .1 .1 .1 .1 .1 .1 .1 .1 .1 .1 .1 .1 .1 .1 .0) (bs .1 .1 .1 .1 .1 .1 .1 .1 .1 .1 .1 .1 .1 .1 .1 .1 .1 .1 .1 .0) (bs .1 .1 .1 .1 .1 .1 .1 .1 .1 .1 .1 .1 .1 .1 .1 .1 .1 .1 .1 .1 .0) (bs .1 .1 .1 .1 .1 .1 .1 .1 .1 .1 .1 .1 .1 .1 .1 .1 .1 .1 .1 .1 .1 .0) (bs .1 .1 .1 .1 .1 .1 .1 .1 .1 .1 .1 .1 .1 .1 .1 .1 .1 .1 .1 .1 .1 .1 .0) (bs .1 .1 .1 .1 .1 .1 .1 .1 .1 .1 .1 .1 .1 .1 .1 .1 .1 .1 .1 .1 .1 .1 .1 .0) (bs .1 .1 .1 .1 .1 .1 .1 .1 .1 .1 .1 .1 .1 .1 .1 .1 .1 .1 .1 .1 .1 .1 .1 .1 .0) (bs .1 .1 .1 .1 .1 .1 .1 .1 .1 .1 .1 .1 .1 .1 .1 .1 .1 .1 .1 .1 .1 .1 .1 .1 .1 .0) (bs .1 .1 .1 .1 .1 .1 .1 .1 .1 .1 .1 .1 .1 .1 .1 .1 .1 .1 .1 .1 .1 .1 .1 .1 .1 .1 .0) (bs .1 .1 .1 .1 .1 .1 .1 .1 .1 .1 .1 .1 .1 .1 .1 .1 .1 .1 .1 .1 .1 .1 .1 .1 .1 .1 .1 .0) .prf))
+      by ! (begun 𝓤 H A W mem run p 𝓣 known-get known-verdict known-query known-compile known-tallied known-settled b (bs .0) (bs .1 .0) (bs .1 .1 .0) (bs .1 .1 .1 .0) (bs .1 .1 .1 .1 .0) (bs .1 .1 .1 .1 .1 .0) (bs .1 .1 .1 .1 .1 .1 .0) (bs .1 .1 .1 .1 .1 .1 .1 .0) (bs .1 .1 .1 .1 .1 .1 .1 .1 .0) (bs .1 .1 .1 .1 .1 .1 .1 .1 .1 .0) (bs .1 .1 .1 .1 .1 .1 .1 .1 .1 .1 .0) (bs .1 .1 .1 .1 .1 .1 .1 .1 .1 .1 .1 .0) (bs .1 .1 .1 .1 .1 .1 .1 .1 .1 .1 .1 .1 .0) (bs .1 .1 .1 .1 .1 .1 .1 .1 .1 .1 .1 .1 .1 .0) (bs .1 .1 .1 .1 .1 .1 .1 .1 .1 .1 .1 .1 .1 .1 .0) (bs .1 .1 .1 .1 .1 .1 .1 .1 .1 .1 .1 .1 .1 .1 .1 .0) (bs .1 .1 .1 .1 .1 .1 .1 .1 .1 .1 .1 .1 .1 .1 .1 .1 .0) (bs .1 .1 .1 .1 .1 .1 .1 .1 .1 .1 .1 .1 .1 .1 .1 .1 .1 .0) (bs .1 .1 .1 .1 .1 .1 .1 .1 .1 .1 .1 .1 .1 .1 .1 .1 .1 .1 .0) (bs .1 .1 .1 .1 .1 .1 .1 .1 .1 .1 .1 .1 .1 .1 .1 .1 .1 .1 .1 .0) (bs .1 .1 .1 .1 .1 .1 .1 .1 .1 .1 .1 .1 .1 .1 .1 .1 .1 .1 .1 .1 .0) (bs .1 .1 .1 .1 .1 .1 .1 .1 .1 .1 .1 .1 .1 .1 .1 .1 .1 .1 .1 .1 .1 .0) (bs .1 .1 .1 .1 .1 .1 .1 .1 .1 .1 .1 .1 .1 .1 .1 .1 .1 .1 .1 .1 .1 .1 .0) (bs .1 .1 .1 .1 .1 .1 .1 .1 .1 .1 .1 .1 .1 .1 .1 .1 .1 .1 .1 .1 .1 .1 .1 .0) (bs .1 .1 .1 .1 .1 .1 .1 .1 .1 .1 .1 .1 .1 .1 .1 .1 .1 .1 .1 .1 .1 .1 .1 .1 .0) (bs .1 .1 .1 .1 .1 .1 .1 .1 .1 .1 .1 .1 .1 .1 .1 .1 .1 .1 .1 .1 .1 .1 .1 .1 .1 .0) (bs .1 .1 .1 .1 .1 .1 .1 .1 .1 .1 .1 .1 .1 .1 .1 .1 .1 .1 .1 .1 .1 .1 .1 .1 .1 .1 .0) .prf))

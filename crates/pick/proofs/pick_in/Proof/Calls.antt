@@ -38,8 +38,8 @@ use Rattle.pick.specs.Picks.{askedIn, heldIn}
 use Rattle.search.proofs.Ask as K
 use Rattle.pick.proofs.Rows.{ask-makes, search-makes, picked-makes}
 use Rattle.pick.proofs.pick as whole
-use Rattle.pick.proofs.search_of as search
-use Rattle.pick.proofs.verdict_in as verdict
+use Rattle.search.proofs.search_of as search
+use Rattle.search.proofs.verdict_in as verdict
 
 -- the lifetimes of the seven that are lent with a share of each, the six slices, where the search lies and what it is, and what is passed by value with its machine value
 pub record Passed : Type 0 where

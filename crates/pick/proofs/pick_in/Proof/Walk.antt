@@ -14,8 +14,8 @@ use prog.Routine.{Routine}
 use prog.Wp.{Heap, Env, Tables}
 use ghost.Atoms.{Atoms}
 use contract.Monad.{Fun, fact}
-use types.Kit.{Given, Item, ‵, raw, some, later, _⊛_, atRet, _$_, !, Goal, prop, runs, passes, allocs, params′, Sq, by, move, drop, group, use1, split, pick, fsplit, feqL, await}
-use types.Run.{look, look-raw, init, store-raw, forget, stop, hop, fld, from, load, of-opd, addr, assigns, and-then, no-more, land, returns, params1, pass1, pass0}
+use types.Kit.{Given, Item, ‵, raw, some, later, _⊛_, atRet, _$_, !, Goal, prop, runs, allocs, params′, Sq, by, move, drop, group, use1, split, pick, fsplit, feqL, await}
+use types.Run.{look, look-raw, init, store-raw, forget, stop, hop, fld, from, load, of-opd, addr, assigns, and-then, no-more, land, returns}
 use types.Part.{agg, whole, sub, look-in}
 use types.SemTy.{Body}
 use sound.WpLaws.{fmOf}
@@ -42,15 +42,15 @@ use Rattle.search.proofs.Picked as P
 use Rattle.search.proofs.Picked.Laws as P′
 use Rattle.pick.specs.Picks.{Picks, PicksIn}
 use Rattle.pick.proofs.InPlace.{picks-in}
-use Rattle.pick.proofs.Locals.{deaths, allocated, freed}
+use Rattle.records.proofs.Entered.{AllTyped, deaths, freed, entered as all-entered}
 use Rattle.pick.proofs.Rows.{search-value, search-tells, search-makes, ask-typed, search-typed, picked-typed, verdict-typed}
 use Rattle.search.proofs.Ask.Laws as K′
 use Rattle.pick.proofs.pick as whole-pick
 use Rattle.pick.proofs.pick.Symbol.{name as #pick·pick}
-use Rattle.pick.proofs.search_of as search
-use Rattle.pick.proofs.search_of.Symbol.{name as #pick·search-of}
-use Rattle.pick.proofs.verdict_in as verdict
-use Rattle.pick.proofs.verdict_in.Symbol.{name as #pick·verdict-in}
+use Rattle.search.proofs.search_of as search
+use Rattle.search.proofs.search_of.Symbol.{name as #search·search-of}
+use Rattle.search.proofs.verdict_in as verdict
+use Rattle.search.proofs.verdict_in.Symbol.{name as #search·verdict-in}
 use Rattle.pick.proofs.pick_in.Code as code
 use Rattle.pick.proofs.pick_in.Code.Mir as pieces
 use Rattle.pick.proofs.pick_in.Proof.Calls.{Passed, weights-val, profits-val, nodes-val, edges-val, list-val, scratch-val, Weights, Profits, Nodes, Edges, Listed, Scratch, after, PickC, SearchC, VerdictC, pick-args, to-pick, goes-pick, search-args, to-search, told-search, goes-search, verdict-args, to-verdict, told-verdict, goes-verdict}
@@ -92,24 +92,23 @@ record-ref = tyRef erased mut (pointee (T.the-row .written))
 abbrev record-slice : Ty
 record-slice = sliceTy record-ref
 
--- the locals as they are written here, which are the function's
+-- the locals behind the parameters; and all of them as they are written here, which are the function's
+abbrev others : List Local
+others = local S′.mir valueLocal ∷ local P′.mir valueLocal ∷ local S′.mir valueLocal ∷ local lent-ref valueLocal ∷ local lent-slice valueLocal ∷ local lent-ref valueLocal ∷ local lent-slice valueLocal ∷ local record-ref valueLocal ∷ local record-slice valueLocal ∷ local record-ref valueLocal ∷ local record-slice valueLocal ∷ []
+
 abbrev pub locals : List Local
-locals = local Vd′.mir valueLocal ∷ local slice₀ valueLocal ∷ local slice₁ valueLocal ∷ local slice₂ valueLocal ∷ local slice₃ valueLocal ∷ local slice₄ valueLocal ∷ local slice₅ valueLocal ∷ local K′.mir valueLocal ∷ local word valueLocal ∷ local search-ref valueLocal ∷ local S′.mir valueLocal ∷ local P′.mir valueLocal ∷ local S′.mir valueLocal ∷ local lent-ref valueLocal ∷ local lent-slice valueLocal ∷ local lent-ref valueLocal ∷ local lent-slice valueLocal ∷ local record-ref valueLocal ∷ local record-slice valueLocal ∷ local record-ref valueLocal ∷ local record-slice valueLocal ∷ []
+locals = local Vd′.mir valueLocal ∷ local slice₀ valueLocal ∷ local slice₁ valueLocal ∷ local slice₂ valueLocal ∷ local slice₃ valueLocal ∷ local slice₄ valueLocal ∷ local slice₅ valueLocal ∷ local K′.mir valueLocal ∷ local word valueLocal ∷ local search-ref valueLocal ∷ others
 
 pub same-locals : locals ≡ code.function .locals
 same-locals = refl
 
 module _ {M : Type 1} (𝓤 : URA M) (H : Heap 𝓤) (A : Atoms 𝓤) (W : Given 𝓤 H A) (mem : Memory → SProp 𝓤) (run : Routine → Fun 𝓤) (p : Passed) (𝓣 : Tables 𝓤 H)
     (known-pick : Triple 𝓤 (𝓣 .C #pick·pick) (PickC 𝓤 H A mem run))
-    (known-search : Triple 𝓤 (𝓣 .C #pick·search-of) (SearchC 𝓤 H A mem run))
-    (known-verdict : Triple 𝓤 (𝓣 .C #pick·verdict-in) (VerdictC 𝓤 H A mem run))
+    (known-search : Triple 𝓤 (𝓣 .C #search·search-of) (SearchC 𝓤 H A mem run))
+    (known-verdict : Triple 𝓤 (𝓣 .C #search·verdict-in) (VerdictC 𝓤 H A mem run))
     (l₀ l₁ l₂ l₃ l₄ l₅ l₆ l₇ l₈ l₉ l₁₀ l₁₁ l₁₂ l₁₃ l₁₄ l₁₅ l₁₆ l₁₇ l₁₈ l₁₉ l₂₀ : ℕ) where
-  -- the locals after the result, and all of them
-  abbrev pub E₁ : Env 𝓤 H
-  E₁ = (slice₀, l₁) ∷ (slice₁, l₂) ∷ (slice₂, l₃) ∷ (slice₃, l₄) ∷ (slice₄, l₅) ∷ (slice₅, l₆) ∷ (K′.mir, l₇) ∷ (word, l₈) ∷ (search-ref, l₉) ∷ (S′.mir, l₁₀) ∷ (P′.mir, l₁₁) ∷ (S′.mir, l₁₂) ∷ (lent-ref, l₁₃) ∷ (lent-slice, l₁₄) ∷ (lent-ref, l₁₅) ∷ (lent-slice, l₁₆) ∷ (record-ref, l₁₇) ∷ (record-slice, l₁₈) ∷ (record-ref, l₁₉) ∷ (record-slice, l₂₀) ∷ []
-
   abbrev pub E : Env 𝓤 H
-  E = (Vd′.mir, l₀) ∷ E₁
+  E = (Vd′.mir, l₀) ∷ (slice₀, l₁) ∷ (slice₁, l₂) ∷ (slice₂, l₃) ∷ (slice₃, l₄) ∷ (slice₄, l₅) ∷ (slice₅, l₆) ∷ (K′.mir, l₇) ∷ (word, l₈) ∷ (search-ref, l₉) ∷ (S′.mir, l₁₀) ∷ (P′.mir, l₁₁) ∷ (S′.mir, l₁₂) ∷ (lent-ref, l₁₃) ∷ (lent-slice, l₁₄) ∷ (lent-ref, l₁₅) ∷ (lent-slice, l₁₆) ∷ (record-ref, l₁₇) ∷ (record-slice, l₁₈) ∷ (record-ref, l₁₉) ∷ (record-slice, l₂₀) ∷ []
 
   module _ (v : Verdict) (w : Val) (vi : Is Vd.the-row v (w ∷ [])) (s : Search) (ns es : List ℕ) (rs xs : List Record) (kept : PicksIn (after p) v s ns es (places rs) (places xs)) (same-nodes : length ns ≡ length (p .nodes .now)) (same-edges : length es ≡ length (p .edges .now)) (same-list : length rs ≡ length (p .list .now)) (same-scratch : length xs ≡ length (p .scratch .now)) (cv : Val) where
     -- the verdict is in its local
@@ -399,72 +398,28 @@ module _ {M : Type 1} (𝓤 : URA M) (H : Heap 𝓤) (A : Atoms 𝓤) (W : Given
         assigns ! (agg ! (and-then ! (load ! (from ! (stop !)) (look ! 36 refl)) (and-then ! (load ! (from ! (fld ! refl (stop !))) (look-in ! 23 (sub ! 1 refl (whole !)))) (no-more !)))) (from ! (stop !)) (init ! 37 refl (tt, (tt, (record { fits = p .scratch-room .0 }, tt)))) $
         lends hv hi
 
-  -- the locals are there, the arguments are stored, and the search is opened
-  abbrev pub Entered : List (Item 𝓤)
-  Entered =
-      ‵ (fobs (p .name) (S.the-row .coded .code (p .old)))
-      ∷ ‵ (fbor (p .κ₆) (Body (memory S.the-row) (p .block) (p .offset) (p .name)))
-      ∷ ‵ (flft (p .κ₆) (p .q₆))
-      ∷ ‵ (flft (p .κ₀) (p .q₀))
-      ∷ ‵ (flft (p .κ₁) (p .q₁))
-      ∷ ‵ (flft (p .κ₂) (p .q₂))
-      ∷ ‵ (flft (p .κ₃) (p .q₃))
-      ∷ ‵ (flft (p .κ₄) (p .q₄))
-      ∷ ‵ (flft (p .κ₅) (p .q₅))
-      ∷ ‵ (Weights p)
-      ∷ ‵ (Profits p)
-      ∷ ‵ (Nodes p)
-      ∷ ‵ (Edges p)
-      ∷ ‵ (Listed p)
-      ∷ ‵ (Scratch p)
-      ∷ deaths 𝓤 H E
-      ∷ ‵ (froom Vd′.mir l₀ 0)
-      ∷ ‵ (froom slice₀ l₁ 0)
-      ∷ ‵ (froom slice₁ l₂ 0)
-      ∷ ‵ (froom slice₂ l₃ 0)
-      ∷ ‵ (froom slice₃ l₄ 0)
-      ∷ ‵ (froom slice₄ l₅ 0)
-      ∷ ‵ (froom slice₅ l₆ 0)
-      ∷ ‵ (froom K′.mir l₇ 0)
-      ∷ ‵ (froom word l₈ 0)
-      ∷ ‵ (froom search-ref l₉ 0)
-      ∷ ‵ (froom S′.mir l₁₀ 0)
-      ∷ ‵ (froom P′.mir l₁₁ 0)
-      ∷ ‵ (froom S′.mir l₁₂ 0)
-      ∷ ‵ (froom lent-ref l₁₃ 0)
-      ∷ ‵ (froom lent-slice l₁₄ 0)
-      ∷ ‵ (froom lent-ref l₁₅ 0)
-      ∷ ‵ (froom lent-slice l₁₆ 0)
-      ∷ ‵ (froom record-ref l₁₇ 0)
-      ∷ ‵ (froom record-slice l₁₈ 0)
-      ∷ ‵ (froom record-ref l₁₉ 0)
-      ∷ ‵ (froom record-slice l₂₀ 0)
-      ∷ ‵ ftrue
-      ∷ []
-
-  pub passed : Sq W Entered (passes E₁ (weights-val p ∷ profits-val p ∷ nodes-val p ∷ edges-val p ∷ list-val p ∷ scratch-val p ∷ p .ask-val ∷ vint w64 (p .place) ∷ vptr (p .block) (p .offset) ∷ []) (runs (𝓣 .C) (𝓣 .Λ) E pieces.t-1 (atRet E (Post 𝓤 H A mem run p))))
-  passed =
-      pass1 ! (init ! 17 refl (tt, (tt, (record { fits = p .weights-room .0 }, tt)))) $ pass1 ! (init ! 18 refl (tt, (tt, (record { fits = p .profits-room .0 }, tt)))) $
-      pass1 ! (init ! 19 refl (tt, (tt, (record { fits = p .nodes-room .0 }, tt)))) $ pass1 ! (init ! 20 refl (tt, (tt, (record { fits = p .edges-room .0 }, tt)))) $
-      pass1 ! (init ! 21 refl (tt, (tt, (record { fits = p .list-room .0 }, tt)))) $ pass1 ! (init ! 22 refl (tt, (tt, (record { fits = p .scratch-room .0 }, tt)))) $
-      pass1 ! (init ! 23 refl (ask-typed 𝓤 H A W (p .ask) (p .ask-val) (p .ask-is))) $ pass1 ! (init ! 24 refl (tt, record { fits = p .place-fits })) $
-      pass1 ! (init ! 25 refl (tt, tt)) $ pass0 ! $ opens ! tt S.the-row {h = p .old} (p .block) (p .offset) (λ vs.
-      spelt ! S.the-row (Is S.the-row) (shows 𝓤 H A S.the-row) (λ x. search-value x ∷ []) search-tells fullShare (p .old) vs (p .block) (p .offset) $ move ! (1 ∷ []) $
-      facts ! S.the-row (Is S.the-row) (shows 𝓤 H A S.the-row) (p .old) (search-value (p .old) ∷ []) (λ hi.
-      begun (search-value (p .old)) hi))
-
 module _ {M : Type 1} (𝓤 : URA M) (H : Heap 𝓤) (A : Atoms 𝓤) (W : Given 𝓤 H A) (mem : Memory → SProp 𝓤) (run : Routine → Fun 𝓤) (p : Passed) (𝓣 : Tables 𝓤 H)
     (known-pick : Triple 𝓤 (𝓣 .C #pick·pick) (PickC 𝓤 H A mem run))
-    (known-search : Triple 𝓤 (𝓣 .C #pick·search-of) (SearchC 𝓤 H A mem run))
-    (known-verdict : Triple 𝓤 (𝓣 .C #pick·verdict-in) (VerdictC 𝓤 H A mem run)) where
+    (known-search : Triple 𝓤 (𝓣 .C #search·search-of) (SearchC 𝓤 H A mem run))
+    (known-verdict : Triple 𝓤 (𝓣 .C #search·verdict-in) (VerdictC 𝓤 H A mem run)) where
   abbrev pub Taken : List (Item 𝓤)
   Taken = ‵ (fobs (p .name) (S.the-row .coded .code (p .old))) ∷ ‵ (fbor (p .κ₆) (Body (memory S.the-row) (p .block) (p .offset) (p .name))) ∷ ‵ (flft (p .κ₆) (p .q₆)) ∷ ‵ (flft (p .κ₀) (p .q₀)) ∷ ‵ (flft (p .κ₁) (p .q₁)) ∷ ‵ (flft (p .κ₂) (p .q₂)) ∷ ‵ (flft (p .κ₃) (p .q₃)) ∷ ‵ (flft (p .κ₄) (p .q₄)) ∷ ‵ (flft (p .κ₅) (p .q₅)) ∷ ‵ (Weights p) ∷ ‵ (Profits p) ∷ ‵ (Nodes p) ∷ ‵ (Edges p) ∷ ‵ (Listed p) ∷ ‵ (Scratch p) ∷ []
 
   abbrev pub Runs : Env 𝓤 H → Goal 𝓤 H
   Runs E = params′ E (weights-val p ∷ profits-val p ∷ nodes-val p ∷ edges-val p ∷ list-val p ∷ scratch-val p ∷ p .ask-val ∷ vint w64 (p .place) ∷ vptr (p .block) (p .offset) ∷ []) (runs (𝓣 .C) (𝓣 .Λ) E pieces.t-1 (atRet E (Post 𝓤 H A mem run p)))
 
+  -- the parameters with their machine values
+  abbrev passed-in : List (Ty × Val)
+  passed-in = (slice₀, weights-val p) ∷ (slice₁, profits-val p) ∷ (slice₂, nodes-val p) ∷ (slice₃, edges-val p) ∷ (slice₄, list-val p) ∷ (slice₅, scratch-val p) ∷ (K′.mir, p .ask-val) ∷ (word, vint w64 (p .place)) ∷ (search-ref, vptr (p .block) (p .offset)) ∷ []
+
+  passed-typed : AllTyped passed-in
+  passed-typed = ((tt, (tt, (record { fits = p .weights-room .0 }, tt))), ((tt, (tt, (record { fits = p .profits-room .0 }, tt))), ((tt, (tt, (record { fits = p .nodes-room .0 }, tt))), ((tt, (tt, (record { fits = p .edges-room .0 }, tt))), ((tt, (tt, (record { fits = p .list-room .0 }, tt))), ((tt, (tt, (record { fits = p .scratch-room .0 }, tt))), (ask-typed 𝓤 H A W (p .ask) (p .ask-val) (p .ask-is), ((tt, record { fits = p .place-fits }), ((tt, tt), tt)))))))))
+
   pub entered : Sq W Taken (allocs locals Runs)
   entered =
-      allocated W Taken locals Runs (λ bs. params1 ! $
+      all-entered W (𝓣 .C) (𝓣 .Λ) Vd′.mir passed-in others valueLocal pieces.t-1 Taken (Post 𝓤 H A mem run p) passed-typed (λ b bs.
       move ! (2 ∷ 3 ∷ 4 ∷ 5 ∷ 6 ∷ 7 ∷ 8 ∷ 9 ∷ 10 ∷ 11 ∷ 12 ∷ 13 ∷ 14 ∷ 15 ∷ 16 ∷ 1 ∷ 0 ∷ []) $
-      by ! (passed 𝓤 H A W mem run p 𝓣 known-pick known-search known-verdict (bs .0) (bs .1 .0) (bs .1 .1 .0) (bs .1 .1 .1 .0) (bs .1 .1 .1 .1 .0) (bs .1 .1 .1 .1 .1 .0) (bs .1 .1 .1 .1 .1 .1 .0) (bs .1 .1 .1 .1 .1 .1 .1 .0) (bs .1 .1 .1 .1 .1 .1 .1 .1 .0) (bs .1 .1 .1 .1 .1 .1 .1 .1 .1 .0) (bs .1 .1 .1 .1 .1 .1 .1 .1 .1 .1 .0) (bs .1 .1 .1 .1 .1 .1 .1 .1 .1 .1 .1 .0) (bs .1 .1 .1 .1 .1 .1 .1 .1 .1 .1 .1 .1 .0) (bs .1 .1 .1 .1 .1 .1 .1 .1 .1 .1 .1 .1 .1 .0) (bs .1 .1 .1 .1 .1 .1 .1 .1 .1 .1 .1 .1 .1 .1 .0) (bs .1 .1 .1 .1 .1 .1 .1 .1 .1 .1 .1 .1 .1 .1 .1 .0) (bs .1 .1 .1 .1 .1 .1 .1 .1 .1 .1 .1 .1 .1 .1 .1 .1 .0) (bs .1 .1 .1 .1 .1 .1 .1 .1 .1 .1 .1 .1 .1 .1 .1 .1 .1 .0) (bs .1 .1 .1 .1 .1 .1 .1 .1 .1 .1 .1 .1 .1 .1 .1 .1 .1 .1 .0) (bs .1 .1 .1 .1 .1 .1 .1 .1 .1 .1 .1 .1 .1 .1 .1 .1 .1 .1 .1 .0) (bs .1 .1 .1 .1 .1 .1 .1 .1 .1 .1 .1 .1 .1 .1 .1 .1 .1 .1 .1 .1 .0) .prf))
+      opens ! tt S.the-row {h = p .old} (p .block) (p .offset) (λ vs.
+      spelt ! S.the-row (Is S.the-row) (shows 𝓤 H A S.the-row) (λ x. search-value x ∷ []) search-tells fullShare (p .old) vs (p .block) (p .offset) $ move ! (1 ∷ []) $
+      facts ! S.the-row (Is S.the-row) (shows 𝓤 H A S.the-row) (p .old) (search-value (p .old) ∷ []) (λ hi.
+      by ! (begun 𝓤 H A W mem run p 𝓣 known-pick known-search known-verdict b (bs .0) (bs .1 .0) (bs .1 .1 .0) (bs .1 .1 .1 .0) (bs .1 .1 .1 .1 .0) (bs .1 .1 .1 .1 .1 .0) (bs .1 .1 .1 .1 .1 .1 .0) (bs .1 .1 .1 .1 .1 .1 .1 .0) (bs .1 .1 .1 .1 .1 .1 .1 .1 .0) (bs .1 .1 .1 .1 .1 .1 .1 .1 .1 .0) (bs .1 .1 .1 .1 .1 .1 .1 .1 .1 .1 .0) (bs .1 .1 .1 .1 .1 .1 .1 .1 .1 .1 .1 .0) (bs .1 .1 .1 .1 .1 .1 .1 .1 .1 .1 .1 .1 .0) (bs .1 .1 .1 .1 .1 .1 .1 .1 .1 .1 .1 .1 .1 .0) (bs .1 .1 .1 .1 .1 .1 .1 .1 .1 .1 .1 .1 .1 .1 .0) (bs .1 .1 .1 .1 .1 .1 .1 .1 .1 .1 .1 .1 .1 .1 .1 .0) (bs .1 .1 .1 .1 .1 .1 .1 .1 .1 .1 .1 .1 .1 .1 .1 .1 .0) (bs .1 .1 .1 .1 .1 .1 .1 .1 .1 .1 .1 .1 .1 .1 .1 .1 .1 .0) (bs .1 .1 .1 .1 .1 .1 .1 .1 .1 .1 .1 .1 .1 .1 .1 .1 .1 .1 .0) (bs .1 .1 .1 .1 .1 .1 .1 .1 .1 .1 .1 .1 .1 .1 .1 .1 .1 .1 .1 .0) (search-value (p .old)) hi .prf))))

@@ -1,0 +1,2 @@
+-- What crosses the border to a host.
+pub mod Border

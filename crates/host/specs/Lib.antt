@@ -1,0 +1,2 @@
+-- What each call promises a host.
+pub mod Promises

@@ -1,0 +1,6 @@
+-- What is said of the number that a host's call returns, of what a refused call leaves, of two calls on equal input, of the calls of one search and of a job.
+pub mod Calls
+pub mod Job
+pub mod Numbers
+pub mod Refused
+pub mod Twice

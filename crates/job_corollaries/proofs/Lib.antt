@@ -1,0 +1,2 @@
+-- Two calls on one text have one output.
+pub mod Alike

@@ -1,0 +1,50 @@
+// The answer to a job's text over tables and lists of the sizes that the programs lend, said here and nowhere else: those of document 01, and larger ones.
+ghost use lib.ListN.{replicate};
+ghost use Rattle.compile_records.specs.Queried.{lentOf};
+ghost use Rattle.job.specs.Answered.{emptyPlaces, Answers};
+use page_text::Output;
+
+// Document 01's tables: 1,024 node rows of 8 words and 1,792 edge rows of 5.
+const NODE_WORDS: usize = 8192;
+
+const EDGE_WORDS: usize = 8960;
+
+// Document 01's lists: how many records can be open, and how many a compile can drain.
+const OPEN_PLACES: usize = 384;
+
+const SCRATCH_PLACES: usize = 128;
+
+// The larger tables: 29,238 node rows and 43,317 edge rows, the most that 64 items at width 256 need. The first 9 layers have 511 nodes
+// at most, the 56 behind them 512 each, and every node but the root comes by an edge; each of 55 merges adds a node and 257 edges.
+const LARGE_NODE_WORDS: usize = 233904;
+
+const LARGE_EDGE_WORDS: usize = 216585;
+
+// The larger lists, which a stack of 8 MiB holds with the tables.
+const LARGE_OPEN_PLACES: usize = 16384;
+
+const LARGE_SCRATCH_PLACES: usize = 4096;
+
+// The answer over document 01's sizes; both tables are all 0 at first.
+pub fn answer(text: &[u8]) -> Output
+    ensures { λ o. ⌜ Answers (now (text .entry)) (lentOf (replicate 8192 0) (replicate 8960 0) (emptyPlaces 128)) (emptyPlaces 384) o ⌝ }
+{
+    let mut nodes = [0u64; NODE_WORDS];
+    let mut edges = [0u64; EDGE_WORDS];
+    job::answer(text, &mut nodes, &mut edges, OPEN_PLACES, SCRATCH_PLACES)
+}
+
+// The answer over the larger sizes.
+pub fn large_answer(text: &[u8]) -> Output
+    ensures { λ o. ⌜ Answers (now (text .entry)) (lentOf (replicate 233904 0) (replicate 216585 0) (emptyPlaces 4096)) (emptyPlaces 16384) o ⌝ }
+{
+    let mut nodes = [0u64; LARGE_NODE_WORDS];
+    let mut edges = [0u64; LARGE_EDGE_WORDS];
+    job::answer(
+        text,
+        &mut nodes,
+        &mut edges,
+        LARGE_OPEN_PLACES,
+        LARGE_SCRATCH_PLACES,
+    )
+}

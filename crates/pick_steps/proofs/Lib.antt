@@ -1,0 +1,4 @@
+-- Laws of what a pick's steps make.
+pub mod Numbers
+pub mod Steps
+pub mod Tallies

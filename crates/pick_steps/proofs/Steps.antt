@@ -1,0 +1,25 @@
+-- Whether a picked record is wanted, and the answer where none is compiled, are what the definitions have.
+use mathlib.Core.Path.{_≡_, refl}
+use mathlib.Core.Bool.{true}
+use mathlib.Core.List.{[]}
+use lib.IntN.{ℤ}
+use lib.Signed.{ltZ}
+use Rattle.diagram.specs.Record.{padded}
+use Rattle.calls.specs.Compile.{compiled}
+use Rattle.layers.specs.declared.Layers.{Layers}
+use Rattle.layers.specs.Stored.{layersFrom}
+use Rattle.refusals.specs.declared.Verdict.{Verdict}
+use Rattle.refusals.specs.declared.Verdict.the-variants.{Accepted}
+use Rattle.refusals.specs.Verdict.{refusalOf}
+use Rattle.finalize.specs.declared.Value.the-variants.{Missing}
+use Rattle.compile.specs.declared.Answer.{Answer}
+use Rattle.compile.specs.Answered.{answerFrom}
+use Rattle.compile_records.specs.declared.Query.{Query}
+use Rattle.pick_steps.specs.Steps.{wanted, idling}
+
+-- a pick that passed its checks is wanted by the bound alone; the code compares bits, whose numbers b and z are
+pub passed-wanted : (v : Verdict) (q : Query) (b z : ℤ) → v ≡ Accepted → b ≡ q .lower → z ≡ q .root .bound → ltZ b z ≡ wanted (refusalOf v) q
+passed-wanted v q b z e f g = rw (e, f, g) refl
+
+pub idle-made : (l : Layers) → l ≡ layersFrom [] → _≡_ {A = Answer} (record { verdict = Accepted; exact = true; best = Missing; path = padded []; «best_exact» = Missing; «exact_path» = padded []; nodes = 0; edges = 0; drained = 0; layers = l }) (answerFrom (compiled idling))
+idle-made l e = rw e refl

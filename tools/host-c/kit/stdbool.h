@@ -1,0 +1,9 @@
+/* stdbool.h: for a compiler that comes without headers; see README.md. */
+#ifndef KIT_STDBOOL_H
+#define KIT_STDBOOL_H
+
+#define bool _Bool
+#define false 0
+#define true 1
+
+#endif
