@@ -35,7 +35,7 @@ OPENS_384 = list(zip((21, 40, 40, 38, 67, 49, 36, 33, 69, 62, 58, 53, 51, 35), (
 OPENS_385 = list(zip((62, 41, 66, 31, 62, 41, 65, 63, 53, 64, 56, 29, 44, 42, 31), (71, 45, 69, 33, 64, 48, 71, 67, 61, 72, 63, 31, 52, 43, 40)))
 
 
-THIRTY_ITEMS = text_of(500, 256, "lel", LARGE)  # for large_page: document 01's sizes refuse it
+TWENTY_ITEMS = text_of(440, 256, "lel", LARGE[:20])  # for large_page: document 01's sizes refuse it
 
 
 def accepted():
@@ -223,8 +223,8 @@ def lacking(answers):
         other = answer(text, DOCUMENT._replace(**{kind: getattr(DOCUMENT, kind) + (1 if one_more else -1)}))
         if not (other if one_more else answers[name]).startswith(b"best") or not (answers[name] if one_more else other).startswith(b"refused"):
             yield name
-    if not answer(THIRTY_ITEMS).startswith(b"refused") or not answer(THIRTY_ITEMS, LARGER).startswith(b"best"):
-        yield "thirty_items"
+    if not answer(TWENTY_ITEMS).startswith(b"refused") or not answer(TWENTY_ITEMS, LARGER).startswith(b"best"):
+        yield "twenty_items"
 
 
 def put_jobs(folder, jobs):
@@ -244,8 +244,8 @@ def put_page(folder):
 
 def put_large_page(folder):
     """What the program large_page is run on: a job that page refuses."""
-    put_jobs(folder, {"thirty_items": THIRTY_ITEMS})
-    (folder / "stdout").write_bytes(answer(THIRTY_ITEMS, LARGER))
+    put_jobs(folder, {"twenty_items": TWENTY_ITEMS})
+    (folder / "stdout").write_bytes(answer(TWENTY_ITEMS, LARGER))
 
 
 def put_cases(folder, jobs, answers):

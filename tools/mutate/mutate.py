@@ -25,7 +25,8 @@ SUMS = {" + ": " - ", " - ": " + ", " * ": " + ", " / ": " * ", " % ": " / "}
 TRUTHS = {"true": "false", "false": "true"}
 NAME = r"[a-z_][a-z0-9_]*"
 NO_CODE = re.compile(r"\s*(//|ghost |use |requires|ensures|#\[|pub struct|struct|pub enum|enum|pub fn|fn |mod |pub mod )")
-MISFIT = re.compile(r"has no field|not in scope|no such|is not declared|does not export|unknown name|cannot find")
+MISFIT = re.compile(r"that can be named from here|has no field|not in scope")
+FOLLOWS = "was not admitted"  # an error that only says that another one was before it
 
 
 def fields():
@@ -98,8 +99,8 @@ def chosen(found, each, dice):
     turns = {}
     for mutant in dice.sample(found, len(found)):
         turns.setdefault(mutant[2], []).append(mutant)
-    rounds = [m for i in range(len(found)) for ms in turns.values() for m in ms[i:i + 1]]
-    return rounds[:each]
+    longest = max(map(len, turns.values()), default=0)
+    return [m for i in range(longest) for ms in turns.values() for m in ms[i:i + 1]][:each]
 
 
 def judged(folder, crate, mutant):
@@ -110,13 +111,13 @@ def judged(folder, crate, mutant):
     lines = text.splitlines()
     lines[number] = new
     path.write_text("\n".join(lines) + "\n")
-    done = subprocess.run(["rt", "dev", crate], cwd=folder, capture_output=True, text=True)
+    done = subprocess.run(["rt", "dev", crate], cwd=folder, stdout=subprocess.PIPE, stderr=subprocess.STDOUT, text=True)
     path.write_text(text)
     if done.returncode == 0:
         return "accepted"
     if done.returncode != 1 or "logic=not-proved" not in done.stdout:
         return "none"
-    errors = [line for line in done.stdout.splitlines() if ": error" in line]
+    errors = [line for line in done.stdout.splitlines() if ": error" in line and FOLLOWS not in line]
     return "misfit" if errors and all(MISFIT.search(line) for line in errors) else "refused"
 
 

@@ -10,7 +10,7 @@ use Rattle.searches.specs.Places.{Place, placeOf, noPlace, overPlaces}
 use Rattle.records.specs.declared.Record.{Record}
 use Rattle.records.specs.Structs.{placeFrom, places, recordIn}
 use Rattle.records.proofs.Places.{places-set, places-length}
-use Rattle.compile_records.specs.Windows.{Shows, begin, Within}
+use Rattle.compile_records.specs.Windows.{windowRecords, Shows, begin, Within}
 
 -- the first n of ps, over what was there
 abbrev pub partly : ℕ → List Place → List Place → List Place
@@ -34,11 +34,11 @@ partly-all n ps old e = rw e (ap (λ (l : List Place). l ++ drop (length ps) old
 -- ---- a turn of the loop
 
 -- record i is stored from the window that it is in
-pub stored : (o : Outcome) (path : List ℕ) (i : ℕ) (words : List ℕ) (ys zs : List Record) (r : Record) → Shows o path (begin i) words → i < length (drained path o) → i < length ys → places zs ≡ partly i (map placeOf (drained path o)) (places ys) → r ≡ recordIn words (i % 16) → places (set zs i r) ≡ partly (i + 1) (map placeOf (drained path o)) (places ys)
+pub stored : (o : Outcome) (path : List ℕ) (i : ℕ) (words : List ℕ) (ys zs : List Record) (r : Record) → Shows o path (begin i) words → i < length (drained path o) → i < length ys → places zs ≡ partly i (map placeOf (drained path o)) (places ys) → r ≡ recordIn words (i % windowRecords) → places (set zs i r) ≡ partly (i + 1) (map placeOf (drained path o)) (places ys)
 stored o path i words ys zs r s h g e d =
     let ps = map placeOf (drained path o) in
-    let z : begin i + i % 16 ≡ i = omega arith in
-    let k : placeFrom r ≡ getD ps i noPlace = ap placeFrom d ∙ s .place-is (i % 16) (omega arith) (omega arith) ∙ ap (λ (m : ℕ). getD ps m noPlace) z in
+    let z : begin i + i % windowRecords ≡ i = omega arith in
+    let k : placeFrom r ≡ getD ps i noPlace = ap placeFrom d ∙ s .place-is (i % windowRecords) (omega arith) (omega arith) ∙ ap (λ (m : ℕ). getD ps m noPlace) z in
     places-set zs i r ∙ rw (e, k) (partly-more i ps (places ys) (omega (arith, length-map (drained path o) placeOf)) (omega (arith, places-length ys)))
 
 -- what the window then shows of the record behind it

@@ -13,7 +13,7 @@ use Rattle.compile.specs.declared.Answer.{Answer}
 use Rattle.fetch.specs.Fetched.{Fetching}
 use Rattle.records.specs.declared.Record.{Record}
 use Rattle.records.specs.Structs.{places, recordIn}
-use Rattle.compile_records.specs.Windows.{Within, Turned}
+use Rattle.compile_records.specs.Windows.{windowRecords, windowWords, Within, Turned}
 use Rattle.compile_records.specs.Stored.{Storable, Stored}
 use Rattle.compile_records.proofs.Over.{partly, partly-all, stored, still-within, first-within}
 
@@ -30,7 +30,7 @@ module _ (ran : Ran) (q : Request) (path ns es : List ℕ) (ys : List Record) wh
   pub starts : (words : List ℕ) → Storing ran q path ns es ys 0 words ys
   starts words = record { none = λ e. refl; some = λ o oldN oldE f. (first-within o path words, refl) }
 
-  pub goes-on : (j n : ℕ) (words ns′ words′ : List ℕ) (zs : List Record) (r : Record) → j < n → Storable ran q path ns es n (length ys) → Storing ran q path ns es ys j words zs → Turned ran q path ns es j words ns′ words′ → r ≡ recordIn words′ (j % 16) → Storing ran q path ns es ys (j + 1) words′ (set zs j r)
+  pub goes-on : (j n : ℕ) (words ns′ words′ : List ℕ) (zs : List Record) (r : Record) → j < n → Storable ran q path ns es n (length ys) → Storing ran q path ns es ys j words zs → Turned ran q path ns es j words ns′ words′ → r ≡ recordIn words′ (j % windowRecords) → Storing ran q path ns es ys (j + 1) words′ (set zs j r)
   goes-on j n words ns′ words′ zs r h c s t e =
       record {
         none = λ z. absurd (omega (arith, z));
@@ -43,7 +43,7 @@ module _ (ran : Ran) (q : Request) (path ns es : List ℕ) (ys : List Record) wh
       }
 
   -- the window's words are as many as it has
-  pub window-long : (j n : ℕ) (words ns′ words′ : List ℕ) (zs : List Record) → j < n → Storable ran q path ns es n (length ys) → Storing ran q path ns es ys j words zs → Turned ran q path ns es j words ns′ words′ → length words′ ≡ 1088
+  pub window-long : (j n : ℕ) (words ns′ words′ : List ℕ) (zs : List Record) → j < n → Storable ran q path ns es n (length ys) → Storing ran q path ns es ys j words zs → Turned ran q path ns es j words ns′ words′ → length words′ ≡ windowWords
   window-long j n words ns′ words′ zs h c s t =
       let f = c .fetchable (omega arith) in
       t .shows (f .outcome) (f .oldN) (f .oldE) (f .fetching) (s .some (f .outcome) (f .oldN) (f .oldE) (f .fetching) .0) .long

@@ -16,7 +16,7 @@ use Rattle.compile.specs.declared.Ran.{Ran}
 use Rattle.fetch.specs.Fetched.{RecordsFetched}
 use Rattle.records.specs.Structs.{BytePaths}
 use Rattle.records.proofs.Written.{record-is}
-use Rattle.compile_records.specs.Windows.{Shows, Filled, begin, Turned}
+use Rattle.compile_records.specs.Windows.{windowRecords, windowWords, Shows, Filled, begin, Turned}
 use Rattle.compile_records.proofs.Bytes.{all-bytes, all-roomy}
 
 take-roomy : (n : ℕ) (rs : List Record) → Roomy rs → Roomy (take n rs)
@@ -63,7 +63,7 @@ table-long n rs old t e roomy h =
     let l = records-length (take n rs) (take-roomy n rs roomy) in
     ap (length {A = ℕ}) e ∙ length-append x (drop (length x) old) ∙ omega (arith, l, h, at-most n rs, length-drop (length x) old)
 
-pub window-filled : (ran : Ran) (q : Request) (path ns es : List ℕ) (first n : ℕ) (rs ns′ words : List ℕ) → length rs ≡ 1088 → RecordsFetched ran q path ns es rs first n ns′ words → Filled ran q path ns es first ns′ words
+pub window-filled : (ran : Ran) (q : Request) (path ns es : List ℕ) (first n : ℕ) (rs ns′ words : List ℕ) → length rs ≡ windowWords → RecordsFetched ran q path ns es rs first n ns′ words → Filled ran q path ns es first ns′ words
 window-filled ran q path ns es first n rs ns′ words l y =
     record {
       nodes-kept = y .nodes-kept;
@@ -81,7 +81,7 @@ window-filled ran q path ns es first n rs ns′ words l y =
           };
     }
   where
-    go : (j : ℕ) → j < 16 → (xs : List Record) → j < length xs → j < length (take 16 xs)
+    go : (j : ℕ) → j < windowRecords → (xs : List Record) → j < length xs → j < length (take 16 xs)
     go j h xs g = below 16 j xs h g
       where
         below : (n j : ℕ) (xs : List Record) → j < n → j < length xs → j < length (take n xs)
@@ -91,7 +91,7 @@ window-filled ran q path ns es first n rs ns′ words l y =
         below (suc n) (suc j) (x ∷ xs) h g = let y : j < length (take n xs) = below n j xs (le-of-suc-le-suc h) (le-of-suc-le-suc g) in omega (arith, y)
 
 -- a window begins at record i
-pub turned-new : (ran : Ran) (q : Request) (path ns es : List ℕ) (i : ℕ) (words ns′ words′ : List ℕ) → i % 16 ≡ 0 → Filled ran q path ns es i ns′ words′ → Turned ran q path ns es i words ns′ words′
+pub turned-new : (ran : Ran) (q : Request) (path ns es : List ℕ) (i : ℕ) (words ns′ words′ : List ℕ) → i % windowRecords ≡ 0 → Filled ran q path ns es i ns′ words′ → Turned ran q path ns es i words ns′ words′
 turned-new ran q path ns es i words ns′ words′ e y =
     let z : begin i ≡ i = omega arith in
     record {
@@ -100,5 +100,5 @@ turned-new ran q path ns es i words ns′ words′ e y =
     }
 
 -- it is within a window
-pub turned-old : (ran : Ran) (q : Request) (path ns es : List ℕ) (i : ℕ) (words : List ℕ) → ¬ (i % 16 ≡ 0) → Turned ran q path ns es i words ns words
+pub turned-old : (ran : Ran) (q : Request) (path ns es : List ℕ) (i : ℕ) (words : List ℕ) → ¬ (i % windowRecords ≡ 0) → Turned ran q path ns es i words ns words
 turned-old ran q path ns es i words e = record { nodes-kept = refl; shows = λ o oldN oldE f w. w (omega (arith, e)) }

@@ -7,7 +7,7 @@ ghost use Rattle.fetch.specs.Fetched.{Fetchable};
 ghost use Rattle.records.specs.Structs.{places, recordIn};
 ghost use Rattle.searches.specs.Compile.{compile};
 ghost use Rattle.compile_records.specs.Queried.{requestIn, pathIn, pathLength, askedBy, lentOf, Compiles, Sourced};
-ghost use Rattle.compile_records.specs.Windows.{Filled, Turned};
+ghost use Rattle.compile_records.specs.Windows.{windowRecords, windowWords, Filled, Turned};
 ghost use Rattle.compile_records.specs.Stored.{Storable, Stored};
 use compile::Answer;
 use compile::Ran;
@@ -32,9 +32,14 @@ pub struct Source {
     pub query: Query,
 }
 
-// 16 records of 68 words.
+// How many records a window has, and how many words.
+const WINDOW_RECORDS: usize = 16;
+
+const WINDOW_WORDS: usize = 1088;
+
+// Some drained records, as words.
 pub struct Window {
-    pub words: [u64; 1088],
+    pub words: [u64; WINDOW_WORDS],
 }
 
 fn request_in(q: Query) -> Request
@@ -101,10 +106,10 @@ fn answer_of(s: Source) -> Answer
 
 // A window before any record is fetched.
 fn empty() -> Window
-    ensures { λ w. ⌜ length (w .words) ≡ 1088 ⌝ }
+    ensures { λ w. ⌜ length (w .words) ≡ windowWords ⌝ }
 {
     Window {
-        words: [0u64; 1088],
+        words: [0u64; WINDOW_WORDS],
     }
 }
 
@@ -119,7 +124,7 @@ fn filled(nodes: &mut [u64], edges: &[u64], first: usize, s: Source) -> Window
     let k = path_length(q);
     let root = q.root;
     let path = root.path;
-    let mut list = [0u64; 1088];
+    let mut list = [0u64; WINDOW_WORDS];
     fetch::fetch(nodes, edges, &mut list, first, ran, request, &path[..k]);
     Window { words: list }
 }
@@ -129,7 +134,7 @@ fn turned(nodes: &mut [u64], edges: &[u64], at: usize, w: Window, s: Source) -> 
     requires { ⌜ Fetchable (s .ran) (requestIn (s .query)) (pathIn (s .query)) (now nodes) (now edges) ⌝ }
     ensures { λ r. ⌜ Turned (s .ran) (requestIn (s .query)) (pathIn (s .query)) (now (nodes .entry)) (now (edges .entry)) at (w .words) (now (nodes .exit)) (r .words) ⌝ }
 {
-    if at % 16 == 0 {
+    if at % WINDOW_RECORDS == 0 {
         filled(nodes, edges, at, s)
     } else {
         w
@@ -138,11 +143,11 @@ fn turned(nodes: &mut [u64], edges: &[u64], at: usize, w: Window, s: Source) -> 
 
 // Record number `at`, from its window.
 fn record_in(w: Window, at: usize) -> Record
-    requires { ⌜ length (w .words) ≡ 1088 ⌝ }
-    ensures { λ r. ⌜ r ≡ recordIn (w .words) (at % 16) ⌝ }
+    requires { ⌜ length (w .words) ≡ windowWords ⌝ }
+    ensures { λ r. ⌜ r ≡ recordIn (w .words) (at % windowRecords) ⌝ }
 {
     let words = w.words;
-    records::from_words(&words, at % 16)
+    records::from_words(&words, at % WINDOW_RECORDS)
 }
 
 // Stores the n drained records of a counted compile in the list's first places.

@@ -56,7 +56,7 @@ use Rattle.fetch.specs.Fetched.{Fetchable}
 use Rattle.compile_records.specs.declared.Source.{Source}
 use Rattle.compile_records.specs.declared.Window.{Window}
 use Rattle.compile_records.specs.Queried.{requestIn, pathIn}
-use Rattle.compile_records.specs.Windows.{Turned}
+use Rattle.compile_records.specs.Windows.{windowRecords, windowWords, Turned}
 use Rattle.compile_records.specs.Stored.{Storable}
 use Rattle.records.proofs.Again.{LentAgain, lends-again, comes-back}
 use Rattle.compile_records.proofs.Storing.{Storing, starts, goes-on, window-long, all-stored}
@@ -148,8 +148,8 @@ module _ {M : Type 1} (𝓤 : URA M) (H : Heap 𝓤) (A : Atoms 𝓤) (mem : Mem
   abbrev RecordIn : Contract 𝓤
   RecordIn = tripleOf 𝓤 H A h.signature (h.spec 𝓤 H A mem run)
 
-  told : (w : Window) (j : ℕ) (r : Record) → ent 𝓤 (ensured 𝓤 H A h.ended (h.clauses 𝓤 H A mem run) tt (w, (j, tt)) tt r) (fact 𝓤 (r ≡ recordIn (w .words) (j % 16)))
-  told w j r = exE 𝓤 _ (λ ws. snd∗ 𝓤 (sem 𝓤 H A (lasts h.ended tt (w, (j, tt)) ws)) (fact 𝓤 (r ≡ recordIn (w .words) (j % 16))))
+  told : (w : Window) (j : ℕ) (r : Record) → ent 𝓤 (ensured 𝓤 H A h.ended (h.clauses 𝓤 H A mem run) tt (w, (j, tt)) tt r) (fact 𝓤 (r ≡ recordIn (w .words) (j % windowRecords)))
+  told w j r = exE 𝓤 _ (λ ws. snd∗ 𝓤 (sem 𝓤 H A (lasts h.ended tt (w, (j, tt)) ws)) (fact 𝓤 (r ≡ recordIn (w .words) (j % windowRecords))))
 
 -- sv is the machine value of the source, and sv-typed that it has the type's form: as variables, so that the large struct is never written out
 module _ {M : Type 1} (𝓤 : URA M) (H : Heap 𝓤) (A : Atoms 𝓤) (W : Given 𝓤 H A) (mem : Memory → SProp 𝓤) (run : Routine → Fun 𝓤) (κ₀ κ₁ κ₂ : Lft) (q₀ q₁ q₂ : Share) (b₀ o₀ : ℕ) (γ₀ : GName) (ns : List ℕ) (edges : RefT (List ℕ)) (b₂ o₂ : ℕ) (γ₂ : GName) (ys : List Record) (n : ℕ) (s : Source) (sv : Val)
@@ -234,7 +234,7 @@ module _ {M : Type 1} (𝓤 : URA M) (H : Heap 𝓤) (A : Atoms 𝓤) (W : Given
     abbrev to-record : RecordIn 𝓤 H A mem run .Ghost
     to-record = ((tt, tt, tt, (w, (j, tt)), (x ∷ [], (vint w64 j ∷ [], tt))), tt)
 
-    goes-record : length (w .words) ≡ 1088 → ent 𝓤 (sem 𝓤 H A ftrue) (RecordIn 𝓤 H A mem run .pre to-record)
+    goes-record : length (w .words) ≡ windowWords → ent 𝓤 (sem 𝓤 H A ftrue) (RecordIn 𝓤 H A mem run .pre to-record)
     goes-record ok =
         qed W (‵ ftrue ∷ []) ∵ says ! ok $ frame ! $ nothing ! $ owned ! usize (Is usize) (uint-makes 𝓤 H A W w64) j _ (refl, j-fits) $ fjoin ! $
         owned ! Wn.the-row (Is Wn.the-row) ((LL.makes Wn.the-type Wn′.the-plain) 𝓤 H A) w _ is $ fjoin ! $ done !
@@ -340,7 +340,7 @@ module _ {M : Type 1} (𝓤 : URA M) (H : Heap 𝓤) (A : Atoms 𝓤) (W : Given
         nothing ! $ use1 W (raw (RecordIn 𝓤 H A mem run .pre (to-record j w′ x′ isw′ j-fits))) (goes-record j w′ x′ isw′ j-fits (window-long (s .ran) (requestIn (s .query)) (pathIn (s .query)) ns (edges .now) ys j n (w .words) (ls .0) (w′ .words) zs small can st turn)) $
         calls-at ! (fmOf 𝓤 H (W .laws) 𝓣) (RecordIn 𝓤 H A mem run) known-record (to-record j w′ x′ isw′ j-fits) (and-then ! (load ! (from ! (stop !)) (look ! 4 refl)) (and-then ! (load ! (from ! (stop !)) (look ! 2 refl)) (no-more !))) (λ y.
         use1 W (later (some (λ (r : Record). (‵ ftrue ⊛ ‵ (T.the-row .own r (y ∷ []))) ⊛ raw (ensured 𝓤 H A h.ended (h.clauses 𝓤 H A mem run) tt (w′, (j, tt)) tt r)))) (id⊢ 𝓤 _) $ await ! tt $ pick ! (λ r.
-        split ! $ move ! (1 ∷ []) $ use1 W (raw (fact 𝓤 (r ≡ recordIn (w′ .words) (j % 16)))) (told 𝓤 H A mem run w′ j r) $ heard ! (r ≡ recordIn (w′ .words) (j % 16)) (λ e. split ! $ drop ! $
+        split ! $ move ! (1 ∷ []) $ use1 W (raw (fact 𝓤 (r ≡ recordIn (w′ .words) (j % windowRecords)))) (told 𝓤 H A mem run w′ j r) $ heard ! (r ≡ recordIn (w′ .words) (j % windowRecords)) (λ e. split ! $ drop ! $
         peeks ! T.the-row (Is T.the-row) (shows 𝓤 H A T.the-row) r (y ∷ []) (λ ir.
         let typed = LL.lawful T.the-type T′.the-laws 𝓤 H A W .typed r _ ir .0 in
         land ! (from ! (stop !)) (init ! 7 refl typed) $ move ! (1 ∷ 2 ∷ 3 ∷ 4 ∷ 5 ∷ 6 ∷ 7 ∷ 8 ∷ 9 ∷ 10 ∷ 11 ∷ 12 ∷ 13 ∷ 0 ∷ []) $
