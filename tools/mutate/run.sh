@@ -1,6 +1,6 @@
 #!/usr/bin/env bash
 # Tries the edits of tools/mutate/edits in a copy of the repository, those of the named crates or all: the prover must refuse each.
-# They are wrong programs like those of crates/*/must-fail, in crates whose check is long, so the gate has two for each promise there and
+# They are wrong programs like those of crates/*/must-fail, in crates whose check is long, so the gate tries a few of each such crate and
 # the others stand here. Usage: tools/mutate/run.sh [CRATE...]; its last lines are those of 'rt must-fail', and so is its exit status.
 set -euo pipefail
 here=$(cd "$(dirname "${BASH_SOURCE[0]}")" && pwd)
