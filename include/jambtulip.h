@@ -120,16 +120,18 @@ JAMBTULIP_ASSERT(offsetof(struct jambtulip_page, end) == 679, "end is at 679");
 
 /* ---- The calls
 
-   Each answers every input, and returns 0 for accepted or the number of the first refusal that applies:
+   Each answers every input, and returns 0 for accepted or the number of the first refusal that applies, in the order 15, 1 to 6, 14, 7 to 9, then 10 to 13:
 
     1  weights and profits differ in number          8  the path doesn't name each item below depth exactly once
-    2  more than 64 items                            9  taken weights plus capacity, or taken profits, don't fit the record
-    3  capacity above 65,535                        10  the run makes a 1,025th node in one layer
+    2  more than 64 items                            9  taken weights plus capacity aren't the page, or taken profits aren't the value
+    3  page above 65,535                            10  the run makes a 1,025th node in one layer
     4  a weight above 65,535                        11  the run needs a node row more than lent
     5  a profit above 1,000,000                     12  the run needs an edge row more than lent
     6  width 0 or above 256                         13  more records than the list has places for
-    7  depth above the item count                   14  no open record in that place, or no pick more can be counted
+    7  depth above the item count                   14  place not below opened, opened above the list's length, or picks at UINT64_MAX
    15  job text outside the grammar
+
+   Of 10 to 12 the run's first need that isn't met decides.
 
    A slice is a pointer and a length in elements. The pointer is aligned, good for that many elements, and not null, even where the length is 0.
    What is lent to one call doesn't overlap, and nothing else touches it during the call. A call keeps nothing and allocates nothing.
@@ -154,7 +156,7 @@ uint64_t jambtulip_pick(const uint64_t *weights, size_t weights_len, const uint6
                         struct jambtulip_terms terms, size_t place, struct jambtulip_search *search);
 
 /* Answers a job's text. `page` is written, accepted or refused: a refused job's text is the word refused, a tab, the number and a line feed.
-   A text outside the grammar leaves lists and tables as they were. */
+   A text outside the grammar leaves lists and tables as they were. Gives 2 to 6, 11 to 13 and 15; 14 only after 2^64 - 1 picks. */
 uint64_t jambtulip_run_job(const uint8_t *text, size_t text_len,
                            uint64_t *nodes, size_t nodes_len, uint64_t *edges, size_t edges_len,
                            struct jambtulip_record *list, size_t list_len, struct jambtulip_record *scratch, size_t scratch_len,

@@ -113,7 +113,7 @@ def next_pick(dice, blocks, ask, order, left):
 
 def sequence(dice):
     """Calls of one search, some hostile: half of these the search goes on from, as if it had wanted them."""
-    name, blocks, ask, bound, order = small(dice.randrange(1 << 30))
+    _, blocks, ask, bound, order = small(dice.randrange(1 << 30))
     if dice.random() < 0.2:
         blocks = problem(dice, dice.randint(10, 30), 40, 60)
     call = Call("start", "start", blocks, ask, bound, NO_SEARCH, 0, others(dice.choice((0, 1, 1, 1, 4))), [], 0, 0, dice.choice(OLD))

@@ -27,7 +27,7 @@ static bool is_digit(const struct rest *r) {
 static bool number(struct rest *r, uint64_t *n) {
     const uint8_t *first = r->at;
     *n = 0;
-    while (is_digit(r) && r->at < first + 9) {
+    while (is_digit(r) && r->at - first < 9) {
         *n = *n * 10 + (uint64_t)(*r->at++ - '0');
     }
     return r->at > first && (*first != '0' || r->at == first + 1);

@@ -86,6 +86,9 @@ static bool read_text(const char *name, uint8_t *text, size_t *length) {
     if (!ok) {
         perror(name == NULL ? "standard input" : name);
     }
+    if (in != NULL && in != stdin) {
+        fclose(in);
+    }
     return ok;
 }
 

@@ -1,4 +1,7 @@
-"""Finds the smallest input on which each wrong variant of the model differs from the right one, and a small set of inputs that tells all of them apart."""
+"""traps.py [FILE]: finds the smallest input on which each wrong variant of the model differs from the right one.
+
+With a file, it also finds a small set of inputs that tells all of them apart, and writes it there.
+"""
 
 import random
 import sys

@@ -1,181 +1,91 @@
 #!/usr/bin/env python3
-"""mutate.py [--each N] [--seed S] [--list] [CRATE...]: makes small wrong programs of the Rattle sources, and asks the checker about each.
+"""mutate.py [--definitions] [--each N] [--most M] [--seed S] [--further RECORD] [--list] [--record FILE] [CRATE...]: asks the checker about
+small wrong programs, or with --definitions about small wrong definitions.
 
-A mutant is one change of one line that keeps the code's shape: another comparison, operand, constant, truth value or field, arguments
-or branches swapped, a store dropped. Of each named crate, or of all, N are tried (all of them if N is 0), every function's turn before
-any function's second; the same seed chooses the same. Each is checked in a copy of the repository. A line for each that the checker
-accepts, and for each that it refuses only where a proof's text names what is gone; last the counts. A change that isn't Rattle (a type
-that doesn't fit) is no mutant. Exit status 1 if one is accepted.
+A change is of one line and keeps the shape of the code (programs.py) or of the definition (definitions.py). Of each function, constant or
+definition of the named crates, or of all, N changes are tried (1 if it isn't said, all of them if N is 0), but of no crate more than M names;
+the same seed chooses the same. The changed crate is checked in a copy of the repository, which has to be proved (rt prove), and a
+program is run. A line for each change that is accepted, and for each that is refused only because a proof's text no longer fits, with
+what programs that lean on it write when they are run without proof, something wrong or what they should; last the counts. A change that
+is no Rattle or doesn't type is not counted. FILE gets a line for each change.
+
+A wrong definition that its own crate accepts may still break a theorem of a crate that leans on it: --further RECORD tries those that a
+record says were accepted, and asks the crates of definitions and theorems above it too, one after another. Exit status 1 if a change is
+accepted.
 """
 import argparse
-import multiprocessing
-import os
 import pathlib
 import random
-import re
-import shutil
-import subprocess
 import sys
-import tempfile
 from collections import Counter
 
-TOP = pathlib.Path(__file__).resolve().parents[2]
-ORDER = {" < ": " <= ", " <= ": " < ", " > ": " >= ", " >= ": " > ", " == ": " != ", " != ": " == "}
-SUMS = {" + ": " - ", " - ": " + ", " * ": " + ", " / ": " * ", " % ": " / "}
-TRUTHS = {"true": "false", "false": "true"}
-NAME = r"[a-z_][a-z0-9_]*"
-NO_CODE = re.compile(r"\s*(//|ghost |use |requires|ensures|#\[|pub struct|struct|pub enum|enum|pub fn|fn |mod |pub mod )")
-MISFIT = re.compile(r"that can be named from here|has no field|not in scope")
-FOLLOWS = "was not admitted"  # an error that only says that another one was before it
+import checker
+import definitions
+import programs
+
+MEANINGS = {
+    "accepted": "accepted",
+    "text": "refused by a proof's text alone",
+    "wrong": "refused by a proof's text alone, and wrong when run",
+    "alike": "refused by a proof's text alone, and right when run",
+}
 
 
-def fields():
-    """The fields of each struct, by their type: what a field can be confused with."""
-    alike = {}
-    for path in TOP.glob("crates/*/src/**/*.rt"):
-        for body in re.findall(r"(?s)struct \w+ \{(.*?)\}", path.read_text()):
-            of_type = {}
-            for name, kind in re.findall(rf"pub ({NAME}): ([^,\n]+),", body):
-                of_type.setdefault(kind, []).append(name)
-            for names in of_type.values():
-                for a, b in zip(names, names[1:] + names[:1]):
-                    if a != b:
-                        alike.setdefault(a, set()).add(b)
-    return alike
+def chosen(found, most, dice):
+    """The changes of each name, in an order that the dice decide; of as many names as are asked for."""
+    by_name = {}
+    for change in found:
+        by_name.setdefault((change.file, change.name), []).append(change)
+    names = [dice.sample(changes, len(changes)) for changes in by_name.values()]
+    return dice.sample(names, most) if most and most < len(names) else names
 
 
-def swapped(line):
-    """Neighbouring arguments in each other's place, and the two branches of an `if` on one line."""
-    for call in re.finditer(rf"\b{NAME}\(([^()]*)\)", line):
-        words = call.group(1).split(", ")
-        for i in range(len(words) - 1):
-            if words[i] != words[i + 1] and all(re.fullmatch(r"[\w.]+", w) for w in words[i:i + 2]):
-                other = words[:i] + [words[i + 1], words[i]] + words[i + 2:]
-                yield line[:call.start(1)] + ", ".join(other) + line[call.end(1):]
-    branches = re.search(r"\{ ([^{}]+) \} else \{ ([^{}]+) \}", line)
-    if branches:
-        yield line[:branches.start(1)] + branches.group(2) + " } else { " + branches.group(1) + line[branches.end(2):]
+def accepted_in(record):
+    """The changes that a record says were accepted."""
+    lines = [line.split("\t") for line in pathlib.Path(record).read_text().splitlines()]
+    return {words[2] for words in lines if words[0] == "accepted"}
 
 
-def changed(line, alike):
-    """Each mutant of a line of code."""
-    for table in ORDER, SUMS:
-        for old, new in table.items():
-            for at in (m.start() for m in re.finditer(re.escape(old), line)):
-                yield line[:at] + new + line[at + len(old):]
-    for word in re.finditer(r"\b(true|false)\b", line):
-        yield line[:word.start()] + TRUTHS[word.group()] + line[word.end():]
-    for number in re.finditer(r"(?<![\w.])\d+(?=(u8|u64|usize|i64)?\b)", line):
-        yield line[:number.start()] + str(int(number.group()) + 1) + line[number.end():]
-    for field in re.finditer(rf"\.({NAME})\b(?!\()", line):
-        for other in sorted(alike.get(field.group(1), ())):
-            yield line[:field.start(1)] + other + line[field.end(1):]
-    yield from swapped(line)
-    if re.match(rf"\s*{NAME}(\[.*\]|\.{NAME}) = .*;$", line):
-        yield re.match(r"\s*", line).group()
-
-
-def mutants(crate, alike):
-    """(file, line number, function, old line, new line) of each mutant of a crate."""
-    for path in sorted((TOP / "crates" / crate / "src").rglob("*.rt")):
-        function, clause = "", False
-        for number, line in enumerate(path.read_text().splitlines()):
-            begins = re.match(rf"\s*(?:pub )?(?:extern \"C\" )?fn ({NAME})", line)
-            if begins:
-                function, clause = begins.group(1), True
-            if line.strip() == "{" or line.endswith(") {") or re.search(r"-> .* \{$", line):
-                clause = False
-                continue
-            if clause or NO_CODE.match(line):
-                continue
-            for new in changed(line, alike):
-                yield str(path.relative_to(TOP)), number, function, line, new
-
-
-def chosen(found, each, dice):
-    """As many as are asked for, one of every function before a second of any."""
-    if not each:
-        return found
-    turns = {}
-    for mutant in dice.sample(found, len(found)):
-        turns.setdefault(mutant[2], []).append(mutant)
-    longest = max(map(len, turns.values()), default=0)
-    return [m for i in range(longest) for ms in turns.values() for m in ms[i:i + 1]][:each]
-
-
-def judged(folder, crate, mutant):
-    """accepted, refused, misfit (refused where a proof names what is gone), or none where it is no Rattle."""
-    file, number, _, _, new = mutant
-    path = folder / file
-    text = path.read_text()
-    lines = text.splitlines()
-    lines[number] = new
-    path.write_text("\n".join(lines) + "\n")
-    done = subprocess.run(["rt", "dev", crate], cwd=folder, stdout=subprocess.PIPE, stderr=subprocess.STDOUT, text=True)
-    path.write_text(text)
-    if done.returncode == 0:
-        return "accepted"
-    if done.returncode != 1 or "logic=not-proved" not in done.stdout:
-        return "none"
-    errors = [line for line in done.stdout.splitlines() if ": error" in line and FOLLOWS not in line]
-    return "misfit" if errors and all(MISFIT.search(line) for line in errors) else "refused"
-
-
-def work(folder, jobs, results):
-    for crate, mutant in iter(jobs.get, None):
-        results.put((crate, mutant, judged(folder, crate, mutant)))
-
-
-def copies(room, count):
-    """Copies of the repository, one for each worker; what was proved is linked, not copied."""
-    for i in range(count):
-        folder = pathlib.Path(room) / str(i)
-        folder.mkdir()
-        shutil.copytree(TOP / "crates", folder / "crates", ignore=shutil.ignore_patterns("must-fail", "data"))
-        shutil.copy(TOP / "crates.txt", folder)
-        for part in "rlib", "stamp", "log":
-            shutil.copytree(TOP / "target" / part, folder / "target" / part)
-        yield folder
-
-
-def try_all(wanted):
-    workers = min(2, os.cpu_count() or 1)
-    with tempfile.TemporaryDirectory() as room:
-        jobs, results = multiprocessing.Queue(), multiprocessing.Queue()
-        for job in wanted + [None] * workers:
-            jobs.put(job)
-        running = [multiprocessing.Process(target=work, args=(folder, jobs, results)) for folder in copies(room, workers)]
-        for process in running:
-            process.start()
-        for _ in wanted:
-            yield results.get()
-        for process in running:
-            process.join()
+def with_change(change):
+    lines = (checker.TOP / change.file).read_text().splitlines()
+    lines[change.number] = change.new
+    text = "\n".join(lines) + "\n"
+    return definitions.used(text, change.new) if change.file.endswith(".antt") else text
 
 
 def main():
-    words = argparse.ArgumentParser(description=__doc__.split("\n", 1)[0])
-    words.add_argument("--each", type=int, default=8)
+    words = argparse.ArgumentParser(description=__doc__.split("\n\n", 1)[0])
+    words.add_argument("--definitions", action="store_true")
+    words.add_argument("--each", type=int, default=1)
+    words.add_argument("--most", type=int, default=0)
     words.add_argument("--seed", default="1")
-    words.add_argument("--list", action="store_true", help="only say what would be tried")
+    words.add_argument("--further")
+    words.add_argument("--list", action="store_true", help="only say what can be tried, each name's in the order of the tries")
+    words.add_argument("--record")
     words.add_argument("crates", nargs="*")
     asked = words.parse_args()
-    alike, wanted = fields(), []
-    for crate in asked.crates or sorted(p.name for p in (TOP / "crates").iterdir()):
-        found = list(mutants(crate, alike))
-        wanted += [(crate, mutant) for mutant in chosen(found, asked.each, random.Random(f"{asked.seed} {crate}"))]
+    source = definitions if asked.definitions else programs
+    crates = asked.crates or [p.name for p in (checker.TOP / "crates").iterdir()]
+    tries = {crate: chosen(source.changes(checker.TOP, crate), asked.most, random.Random(f"{asked.seed} {crate}")) for crate in sorted(crates)}
+    if asked.further:
+        before = accepted_in(asked.further)
+        tries = {crate: [[c] for changes in names for c in changes if str(c) in before] for crate, names in tries.items()}
     if asked.list:
-        for crate, (file, number, function, old, new) in wanted:
-            print(f"{file}:{number + 1} {function}: {old.strip()}  ->  {new.strip() or '(dropped)'}")
-        print(f"{len(wanted)} mutants")
+        for change in (change for names in tries.values() for changes in names for change in changes):
+            print(change)
         return 0
+    jobs = [(crate, [[(c, with_change(c)) for c in changes] for changes in names], asked.each, bool(asked.further)) for crate, names in tries.items()]
+    jobs.sort(key=lambda job: -len(job[1]))
     counts = Counter()
-    for crate, (file, number, function, old, new), verdict in try_all(wanted):
-        counts[verdict] += 1
-        if verdict in ("accepted", "misfit"):
-            print(f"{verdict}: {file}:{number + 1} {function}: {old.strip()}  ->  {new.strip() or '(dropped)'}", flush=True)
-    tried = sum(counts.values()) - counts["none"]
-    print(f"{tried} mutants: {counts['refused']} refused, {counts['misfit']} refused by a proof's text alone, {counts['accepted']} accepted; {counts['none']} changes were no Rattle")
+    record = open(asked.record, "w") if asked.record else None
+    for change, verdict in checker.try_all(jobs):
+        counts[verdict.word] += 1
+        if record:
+            print(verdict.word, round(verdict.seconds), change, " | ".join(verdict.errors[:3]), sep="\t", file=record, flush=True)
+        if verdict.word in MEANINGS:
+            print(f"{MEANINGS[verdict.word]}: {change}", flush=True)
+    said = ", ".join(f"{counts[word]} {meaning}" for word, meaning in MEANINGS.items())
+    print(f"{sum(counts.values()) - counts['none']} changes: {counts['refused']} refused, {said}; {counts['none']} more were no Rattle")
     return 1 if counts["accepted"] else 0
 
 

@@ -1,9 +1,10 @@
 #!/usr/bin/env python3
-"""check.py [DEMANDS SCOPE]: checks docs/PROMISES.md against the repository. Run it at the repository's top.
+"""check.py [DEMANDS SCOPE]: checks docs/PROMISES.md, and what the other documents cite, against the repository. Run it at the repository's top.
 
 Every file that a row cites is there, every name behind it is defined in that file, every edit, figure and starred case that
-is cited exists, and every edit, of the gate or of tools/mutate, is cited somewhere. With the two documents, the demands and document 01,
-it also checks that each quoted sentence stands there, in order, and that nothing of them is left unquoted.
+is cited exists, and every edit, of the gate or of tools/mutate, is cited somewhere. Every file that any document links or names is
+there, and defines the names that stand right behind it. With the two documents, the demands and document 01, it also checks that
+each quoted sentence stands there, in order, and that nothing of them is left unquoted.
 Ends in 'N rows, M faults'; exit status 1 if there is a fault.
 """
 import glob
@@ -12,11 +13,13 @@ import re
 import sys
 
 LEDGER = "docs/PROMISES.md"
+DOCUMENTS = ["README.md", "docs/*.md", "tools/*/README.md"]
 FIGURES = {
     "Traps": "crates/diagram/specs/Traps.antt",
     "Calls": "crates/calls/specs/Figures.antt",
     "Layout": "crates/layout/specs/Figures.antt",
     "Searches": "crates/searches/specs/Figures.antt",
+    "Jobs": "crates/jobs/specs/Figures.antt",
 }
 STARRED = "crates/diagram/specs/Starred.antt"
 EDITS = ["crates/*/must-fail/{}.edit", "tools/mutate/edits/*/{}.edit"]
@@ -30,8 +33,8 @@ def edits(name):
     return sorted(path for place in EDITS for path in glob.glob(place.format(name)))
 
 
-def fault(where, what):
-    faults.append(f"{LEDGER}:{where}: {what}")
+def fault(where, what, document=LEDGER):
+    faults.append(f"{document}:{where}: {what}")
 
 
 def read(path):
@@ -79,7 +82,7 @@ def check_names(number, cell):
 
 def check_tests(number, cell, cited):
     file = None
-    for word, quote in re.findall(r'\b(Traps|Calls|Layout|Searches)\b|"([^"]+)"', cell):
+    for word, quote in re.findall(rf'\b({"|".join(FIGURES)})\b|"([^"]+)"', cell):
         if word:
             file = FIGURES[word]
         elif file is None:
@@ -98,6 +101,29 @@ def check_tests(number, cell, cited):
         elif not edits(token):
             fault(number, f"no edit {token}")
         cited.add(token)
+
+
+def check_document(document):
+    """Links, files in backticks, files of the same folder behind them, and names right behind a file."""
+    for number, line in enumerate(read(document).splitlines(), 1):
+        for link in re.findall(r"\]\(([^)]+)\)", line):
+            if not os.path.exists(os.path.join(os.path.dirname(document), link)):
+                fault(number, f"no file {link}", document)
+        folder = None
+        for token, names in re.findall(r"`([^`]+)`((?::?,? ?`[\w-]+`)*)", line):
+            if re.fullmatch(r"\w+/(specs|proofs|src)/\w+\.\w+", token):
+                token = "crates/" + token
+            elif folder and re.fullmatch(r"\w+\.antt", token):
+                token = os.path.join(folder, token)
+            elif not re.fullmatch(r"(crates|docs|tools|include)/[\w./*-]+", token):
+                continue
+            if not glob.glob(token):
+                fault(number, f"no file {token}", document)
+                continue
+            folder = os.path.dirname(token)
+            for name in re.findall(r"`([^`]+)`", names) if os.path.isfile(token) else ():
+                if not re.search(DEFINED.format(re.escape(name)), read(token)):
+                    fault(number, f"{name} isn't defined in {token}", document)
 
 
 def plain(text):
@@ -143,6 +169,8 @@ def main(documents):
     for edit in edits("*"):
         if os.path.basename(edit)[:-5] not in cited:
             fault(0, f"no row cites the edit {edit}")
+    for document in sorted(path for place in DOCUMENTS for path in glob.glob(place)):
+        check_document(document)
     if documents:
         demands, scope = documents
         known = sections(read(scope))

@@ -2,7 +2,7 @@
 import random
 from collections import namedtuple
 
-from search import NO_SEARCH, Ask, Blocks, Place, Search, padded, pick, start
+from search import NO_SEARCH, Ask, Blocks, Place, pick, start
 import model
 
 AMPLE = 1 << 12  # rows
@@ -82,7 +82,7 @@ def calls_of(name, blocks, ask, bound, order, most_picks, rooms="all"):
     while begun.number == 0 and search.opened and turn < most_picks:
         place = order(search, places)
         nodes, edges, scratch, count, done = needed(blocks, ask, search, place, places[:search.opened])
-        if count > MOST_PLACES or scratch + 2 > MOST_PLACES or count + 2 > MOST_PLACES or (nodes + 3) * 8 > MOST_WORDS or (edges + 2) * 5 > MOST_WORDS:
+        if scratch + 2 > MOST_PLACES or count + 2 > MOST_PLACES or (nodes + 3) * 8 > MOST_WORDS or (edges + 2) * 5 > MOST_WORDS:
             return
         for how, (n, e, s, p) in rooms_of((nodes, edges, scratch, count), rooms):
             held = (places[:search.opened] + others(p, 100))[:p]
@@ -114,7 +114,7 @@ def small(seed):
 
 def hostile(dice):
     """A pick whose search, list, place or record is damaged in one way or two."""
-    name, blocks, ask, bound, order = small(dice.randrange(1 << 30))
+    _, blocks, ask, bound, order = small(dice.randrange(1 << 30))
     calls = [call for call in calls_of("hostile", blocks, ask, bound, order, 6, "enough") if call.call == "pick"]
     if not calls:
         return None

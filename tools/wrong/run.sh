@@ -2,6 +2,7 @@
 # Shows for each wrong definition beside this script (*.wrong) that demand 2 is false under it, and that the check refuses it.
 # Each is tried in a scratch copy of the repository. First without the theorems: the prover shows that a statement of crates/demand2/specs is false
 # there, from the run of one small input. Then with them, and without the figures of `diagram`, which would be refused before: the lemmas that are refused.
+# A file *.wrong has the edit, what it breaks and the refutation; head.txt is what every refutation begins with.
 # Usage: tools/wrong/run.sh [NAME...]; exit status 0 if every statement is shown false and every check is refused.
 set -uo pipefail
 here=$(cd "$(dirname "${BASH_SOURCE[0]}")" && pwd)

@@ -9,7 +9,7 @@ use lib.ListN.{length, getD, drop, drop-of-length-le}
 use Rattle.knapsack.specs.Items.{itemsOf, counted}
 use Rattle.knapsack.specs.FastBound.{fastBound}
 use Rattle.knapsack.specs.Limits.{InLimits}
-use Rattle.knapsack.proofs.FastBound.{fastBound-at-most-total}
+use Rattle.knapsack.proofs.FastBound.{fastBound-at-most-total, fastBound-none-left}
 use Rattle.knapsack.proofs.Limits.{length-items, items-from, total-in-limits}
 
 module _ (ws ps : List ℕ) (limits : InLimits ws ps) (capacity : ℕ) where
@@ -18,10 +18,9 @@ module _ (ws ps : List ℕ) (limits : InLimits ws ps) (capacity : ℕ) where
   bound-turn d h = rw (items-from ws ps d (limits .paired) h)
 
   pub bound-done : (d : ℕ) → length ws ≤ d → fastBound (drop d (itemsOf ws ps)) capacity ≡ 0
-  unfolding fastBound
   bound-done d h =
       let l : length (itemsOf ws ps) ≤ d = omega (arith, length-items ws ps (limits .paired)) in
-      rw (drop-of-length-le (itemsOf ws ps) {i = d} l)
+      rw (drop-of-length-le (itemsOf ws ps) {i = d} l) (fastBound-none-left capacity)
 
   pub bound-limit : (d : ℕ) → fastBound (drop d (itemsOf ws ps)) capacity ≤ 64000000
   bound-limit d =

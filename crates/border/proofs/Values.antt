@@ -20,8 +20,8 @@ use Rattle.compile_records.specs.declared.Query.{Query}
 use Rattle.border.specs.declared.Terms.{Terms}
 use Rattle.border.specs.declared.Question.{Question}
 use Rattle.border.specs.declared.Found.{Found}
-use Rattle.border.specs.declared.Held.{Held}
-use Rattle.border.specs.Border.{kindIn, modeIn, flagIn, flagOf, hasOf, valueOf, askIn, queryIn, searchIn, heldOf, heldAfter, foundOf}
+use Rattle.border.specs.declared.HostSearch.{HostSearch}
+use Rattle.border.specs.Border.{kindIn, modeIn, flagIn, flagOf, hasOf, valueOf, askIn, queryIn, searchIn, hostSearchOf, hostSearchAfter, foundOf}
 
 pub kind-last : (n : ℕ) → n ≡ 0 → LastExactLayer ≡ kindIn n
 kind-last n e = sym (ap (λ (t : Bool). cond t LastExactLayer Frontier) (eq-eqb n 0 e))
@@ -57,16 +57,16 @@ pub query-made : (q : Question) (m : Mode) (k : Kind) (z : ℤ) → m ≡ modeIn
     → _≡_ {A = Query} (record { page = q .page; width = q .width; mode = m; kind = k; lower = z; root = q .root }) (queryIn q)
 query-made q m k z e f g = rw (e, f, g) refl
 
-pub search-made : (h : Held) (z : ℤ) (b : Bool) → z ≡ h .best → b ≡ flagIn (h .held)
+pub search-made : (h : HostSearch) (z : ℤ) (b : Bool) → z ≡ h .best → b ≡ flagIn (h .held)
     → _≡_ {A = Search} (record { best = z; held = b; path = h .path; opened = h .opened; picks = h .picks }) (searchIn h)
 search-made h z b e f = rw (e, f) refl
 
-pub held-made : (s : Search) (z : ℤ) (n : ℕ) → z ≡ s .best → n ≡ flagOf (s .held)
-    → _≡_ {A = Held} (record { best = z; held = n; path = s .path; opened = s .opened; picks = s .picks }) (heldOf s)
-held-made s z n e f = rw (e, f) refl
+pub host-search-made : (s : Search) (z : ℤ) (n : ℕ) → z ≡ s .best → n ≡ flagOf (s .held)
+    → _≡_ {A = HostSearch} (record { best = z; held = n; path = s .path; opened = s .opened; picks = s .picks }) (hostSearchOf s)
+host-search-made s z n e f = rw (e, f) refl
 
-pub held-accepted : (v : Verdict) (s : Search) (old h : Held) → v ≡ Accepted → h ≡ heldOf s → h ≡ heldAfter v s old
-held-accepted v s old h e f = f ∙ sym (ap (λ (w : Verdict). heldAfter w s old) e)
+pub host-search-accepted : (v : Verdict) (s : Search) (old h : HostSearch) → v ≡ Accepted → h ≡ hostSearchOf s → h ≡ hostSearchAfter v s old
+host-search-accepted v s old h e f = f ∙ sym (ap (λ (w : Verdict). hostSearchAfter w s old) e)
 
 pub found-made : (a : Answer) (exact has has-exact : ℕ) (z z-exact x x-exact : ℤ) → exact ≡ flagOf (a .exact) → has ≡ hasOf (a .best) → z ≡ x → x ≡ valueOf (a .best) → has-exact ≡ hasOf (a .«best_exact») → z-exact ≡ x-exact → x-exact ≡ valueOf (a .«best_exact»)
     → _≡_ {A = Found} (record {

@@ -20,7 +20,7 @@ use Rattle.page_text.specs.declared.Output.{Output}
 use Rattle.border.specs.declared.Terms.{Terms}
 use Rattle.border.specs.declared.Question.{Question}
 use Rattle.border.specs.declared.Found.{Found}
-use Rattle.border.specs.declared.Held.{Held}
+use Rattle.border.specs.declared.HostSearch.{HostSearch}
 use Rattle.border.specs.declared.Page.{Page}
 
 -- ---- in: every number has a meaning, so that no refusal has to be added to document 01's
@@ -43,7 +43,7 @@ askIn t = record { page = t .page; width = t .width; kind = kindIn (t .cut) }
 abbrev pub queryIn : Question → Query
 queryIn q = record { page = q .page; width = q .width; mode = modeIn (q .mode); kind = kindIn (q .cut); lower = q .lower; root = q .root }
 
-abbrev pub searchIn : Held → Search
+abbrev pub searchIn : HostSearch → Search
 searchIn h = record { best = h .best; held = flagIn (h .held); path = h .path; opened = h .opened; picks = h .picks }
 
 -- ---- out: what is read for each case
@@ -84,13 +84,13 @@ foundOf a =
       to = a .layers .to;
     }
 
-abbrev pub heldOf : Search → Held
-heldOf s = record { best = s .best; held = flagOf (s .held); path = s .path; opened = s .opened; picks = s .picks }
+abbrev pub hostSearchOf : Search → HostSearch
+hostSearchOf s = record { best = s .best; held = flagOf (s .held); path = s .path; opened = s .opened; picks = s .picks }
 
 -- the lent search after a start or a pick, with the search that it answers: a refused call leaves it as it was
-abbrev pub heldAfter : Verdict → Search → Held → Held
-heldAfter Accepted s old = heldOf s
-heldAfter (Refused n) s old = old
+abbrev pub hostSearchAfter : Verdict → Search → HostSearch → HostSearch
+hostSearchAfter Accepted s old = hostSearchOf s
+hostSearchAfter (Refused n) s old = old
 
 -- the number that a job's run returns: 0 for a run that came to its end
 abbrev pub endingNumber : Ending → ℕ

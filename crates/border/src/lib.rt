@@ -1,6 +1,6 @@
 // What crosses the border to a C or Rust host: structs of plain numbers, what a host's numbers ask, and what it reads of each answer.
 ghost use mathlib.Core.Path.{_≡_};
-ghost use Rattle.border.specs.Border.{numberOf, kindIn, modeIn, flagOf, flagIn, hasOf, valueOf, askIn, queryIn, searchIn, heldOf, heldAfter, foundOf, shownOf};
+ghost use Rattle.border.specs.Border.{numberOf, kindIn, modeIn, flagOf, flagIn, hasOf, valueOf, askIn, queryIn, searchIn, hostSearchOf, hostSearchAfter, foundOf, shownOf};
 use compile::Answer;
 use compile_records::Query;
 use cutset::Kind;
@@ -51,7 +51,7 @@ pub struct Found {
 
 // A search as a host lends it: a path is held unless `held` is 0.
 #[repr(C)]
-pub struct Held {
+pub struct HostSearch {
     pub best: i64,
     pub held: u64,
     pub path: [u8; 64],
@@ -68,7 +68,7 @@ pub struct Page {
 }
 
 // A verdict's number: 0 for accepted, else the refusal's.
-pub fn number_of(v: Verdict) -> u64
+fn number_of(v: Verdict) -> u64
     ensures { λ n. ⌜ n ≡ numberOf v ⌝ }
 {
     match v {
@@ -77,7 +77,7 @@ pub fn number_of(v: Verdict) -> u64
     }
 }
 
-pub fn kind_in(cut: u64) -> Kind
+fn kind_in(cut: u64) -> Kind
     ensures { λ k. ⌜ k ≡ kindIn cut ⌝ }
 {
     if cut == 0 {
@@ -87,7 +87,7 @@ pub fn kind_in(cut: u64) -> Kind
     }
 }
 
-pub fn mode_in(mode: u64) -> Mode
+fn mode_in(mode: u64) -> Mode
     ensures { λ m. ⌜ m ≡ modeIn mode ⌝ }
 {
     if mode == 0 {
@@ -100,19 +100,19 @@ pub fn mode_in(mode: u64) -> Mode
     }
 }
 
-pub fn flag_of(b: bool) -> u64
+fn flag_of(b: bool) -> u64
     ensures { λ n. ⌜ n ≡ flagOf b ⌝ }
 {
     if b { 1 } else { 0 }
 }
 
-pub fn flag_in(n: u64) -> bool
+fn flag_in(n: u64) -> bool
     ensures { λ b. ⌜ b ≡ flagIn n ⌝ }
 {
     n != 0
 }
 
-pub fn has_of(v: Value) -> u64
+fn has_of(v: Value) -> u64
     ensures { λ n. ⌜ n ≡ hasOf v ⌝ }
 {
     match v {
@@ -121,7 +121,7 @@ pub fn has_of(v: Value) -> u64
     }
 }
 
-pub fn value_of(v: Value) -> i64
+fn value_of(v: Value) -> i64
     ensures { λ z. ⌜ z ≡ valueOf v ⌝ }
 {
     match v {
@@ -188,7 +188,7 @@ pub fn found_of(a: Answer) -> Found
 }
 
 // A host's search as the calls hold it.
-pub fn search_in(h: Held) -> Search
+pub fn search_in(h: HostSearch) -> Search
     ensures { λ s. ⌜ s ≡ searchIn h ⌝ }
 {
     let path = h.path;
@@ -202,11 +202,11 @@ pub fn search_in(h: Held) -> Search
 }
 
 // A search as a host holds it.
-pub fn held_of(s: Search) -> Held
-    ensures { λ h. ⌜ h ≡ heldOf s ⌝ }
+fn host_search_of(s: Search) -> HostSearch
+    ensures { λ h. ⌜ h ≡ hostSearchOf s ⌝ }
 {
     let path = s.path;
-    Held {
+    HostSearch {
         best: s.best,
         held: flag_of(s.held),
         path: path,
@@ -216,11 +216,11 @@ pub fn held_of(s: Search) -> Held
 }
 
 // A host's search after a call that was accepted, with that search, or refused, which leaves it as it was.
-pub fn held_after(v: Verdict, s: Search, old: Held) -> Held
-    ensures { λ h. ⌜ h ≡ heldAfter v s old ⌝ }
+fn host_search_after(v: Verdict, s: Search, old: HostSearch) -> HostSearch
+    ensures { λ h. ⌜ h ≡ hostSearchAfter v s old ⌝ }
 {
     match v {
-        Verdict::Accepted => held_of(s),
+        Verdict::Accepted => host_search_of(s),
         Verdict::Refused(_) => old,
     }
 }
@@ -239,12 +239,12 @@ pub fn start_number(a: search::Started) -> u64
     number_of(verdict)
 }
 
-pub fn after_start(a: search::Started, old: Held) -> Held
-    ensures { λ h. ⌜ h ≡ heldAfter (a .verdict) (a .search) old ⌝ }
+pub fn after_start(a: search::Started, old: HostSearch) -> HostSearch
+    ensures { λ h. ⌜ h ≡ hostSearchAfter (a .verdict) (a .search) old ⌝ }
 {
     let verdict = a.verdict;
     let search = a.search;
-    held_after(verdict, search, old)
+    host_search_after(verdict, search, old)
 }
 
 pub fn pick_number(p: search::Picked) -> u64
@@ -254,12 +254,12 @@ pub fn pick_number(p: search::Picked) -> u64
     number_of(verdict)
 }
 
-pub fn after_pick(p: search::Picked, old: Held) -> Held
-    ensures { λ h. ⌜ h ≡ heldAfter (p .verdict) (p .search) old ⌝ }
+pub fn after_pick(p: search::Picked, old: HostSearch) -> HostSearch
+    ensures { λ h. ⌜ h ≡ hostSearchAfter (p .verdict) (p .search) old ⌝ }
 {
     let verdict = p.verdict;
     let search = p.search;
-    held_after(verdict, search, old)
+    host_search_after(verdict, search, old)
 }
 
 // A job's answer, as a host reads it.

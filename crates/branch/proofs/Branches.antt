@@ -11,11 +11,12 @@ use Rattle.words.specs.I64.{mid, satAdd}
 use Rattle.diagram.specs.Node.{Node, nodeAt}
 use Rattle.diagram.specs.Tables.{Diagram, withNodes}
 use Rattle.diagram.specs.Tables as Def
-use Rattle.diagram.specs.Run.{Settings, Run, going, stopped, need}
+use Rattle.diagram.specs.Run.{Settings, Run, need}
 use Rattle.diagram.specs.Rule4.{handed, lookup, pushEdge, pushNode, childOf, branchTo, branchOn, addEdge, newChild}
 use Rattle.layout.specs.Table.{wordsOf, over}
 use Rattle.layout.specs.Rows.{nodeWords, encodeNode, nodeTable}
 use Rattle.layout.proofs.Table.{part-from, part-back}
+use Rattle.layout.proofs.Rows.{node-width}
 use Rattle.rows.specs.Access.{NodeRead}
 use Rattle.rows.specs.declared.NodeId.{NodeId}
 use Rattle.branch.specs.declared.Counts.{Counts}
@@ -25,7 +26,7 @@ use Rattle.branch.specs.declared.Found.{Found}
 use Rattle.branch.specs.declared.Found.the-variants.{At, Nothing}
 use Rattle.branch.specs.declared.Parent.{Parent}
 use Rattle.branch.specs.declared.Branch.{Branch}
-use Rattle.branch.specs.State.{foundOf, Below, LookedUp, countsOf, diagramOf, ComingHeld, Told, Stands, ComingStepped, EdgeAdded, ChildMade, ChildAdded, Held, Stepped, Branched, Appended}
+use Rattle.branch.specs.State.{foundOf, Below, LookedUp, diagramOf, ComingHeld, Told, Stands, ComingStepped, EdgeAdded, ChildMade, ChildAdded, Held, Stepped, Branched, Appended}
 
 -- the lookup, said of the diagram
 looked : (first : ℕ) (k : Counts) (rooms : Rooms) (capacity : ℕ) (cs es : List ℕ) (f : Found) → LookedUp cs (k .nodes - first) capacity f → (s : Settings) (d : Diagram) (oldN oldE : List ℕ) → Stands s d oldN oldE first k rooms → ComingHeld d oldN oldE cs es → lookup capacity (drop (d .start) (d .nodes)) (d .start) ≡ foundOf first f
@@ -106,10 +107,6 @@ part-is xs a h = take-all (length xs - a) (drop a xs) (omega (arith, length-drop
 
 rest-nil : (xs : List ℕ) (a : ℕ) → a ≤ length xs → drop (length xs - a) (drop a xs) ≡ []
 rest-nil xs a h = let e : a + (length xs - a) ≡ length xs = omega arith in drop-drop (length xs - a) a xs ∙ ap (λ (n : ℕ). drop n xs) e ∙ drop-length xs
-
-node-width : (n : Node) → length (encodeNode n) ≡ nodeWords
-unfolding encodeNode
-node-width n = refl
 
 -- the whole table holds a diagram: so does its part from the coming layer on
 coming-held : (d : Diagram) (oldN oldE ns es : List ℕ) → d .start ≤ length (d .nodes) → d .start * nodeWords ≤ length ns → Held d oldN oldE ns es → ComingHeld d oldN oldE (take (length ns - d .start * nodeWords) (drop (d .start * nodeWords) ns)) es

@@ -1,30 +1,27 @@
 -- A new child: what the code's writes mean for the diagram.
-use mathlib.Core.Path.{_≡_, refl, sym, ap, subst, _∙_}
-use mathlib.Core.Bool.{Bool, true, false}
+use mathlib.Core.Path.{_≡_, refl, sym, ap, _∙_}
+use mathlib.Core.Bool.{true, false}
 use mathlib.Core.List.{List, [], _∷_, _++_}
 use Prim.Native.Nat.{ℕ, suc, _+_, _-_, _*_, _<_, _≤_}
-use native.Mathlib.Nat.{suc-mul}
 use native.Mathlib.Omega.{arith}
 use lib.Dec.{ltb}
-use lib.ListN.{length, getD, set, drop, length-set, length-drop, length-append, List·getD-append}
+use lib.ListN.{length, drop, length-drop, length-append, List·getD-append}
 use lib.Seq.{getD-append-seam, set-append-seam, drop-append-le}
 use borrow.Author.Tests.{lt-ltb, le-ltb}
-use Rattle.diagram.specs.Node.{Node, Edge, noNode, nodeAt, fresh}
+use Rattle.diagram.specs.Node.{Node, noNode, fresh}
 use Rattle.diagram.specs.Tables.{Diagram, withNodes}
-use Rattle.diagram.specs.Run.{Settings, Run, going, stopped, need, layerRoom}
+use Rattle.diagram.specs.Run.{need}
 use Rattle.diagram.specs.Rule4.{handed, receive, landed, pushEdge, pushNode, childOf, newChild}
-use Rattle.layout.specs.Table.{over}
-use Rattle.layout.specs.Rows.{nodeWords, edgeWords, nodeTable, edgeTable}
+use Rattle.layout.specs.Rows.{nodeWords, edgeWords}
 use Rattle.rows.specs.Access.{EdgeWritten, NodeWritten}
 use Rattle.branch.specs.declared.Counts.{Counts}
 use Rattle.branch.specs.declared.Rooms.{Rooms}
-use Rattle.branch.specs.declared.Step.{Step}
 use Rattle.branch.specs.declared.Step.the-variants.{Going, Stopped}
 use Rattle.branch.specs.declared.Parent.{Parent}
 use Rattle.branch.specs.declared.Branch.{Branch}
-use Rattle.branch.specs.State.{Fit, countsOf, stepOf, diagramOf, ComingHeld, Told, Stands, ComingStepped, ChildMade}
+use Rattle.branch.specs.State.{countsOf, ComingHeld, ChildMade}
 
-counted-nodes : (d : Diagram) (k : Counts) → k ≡ countsOf d → k .nodes ≡ length (d .nodes)
+pub counted-nodes : (d : Diagram) (k : Counts) → k ≡ countsOf d → k .nodes ≡ length (d .nodes)
 counted-nodes d k e = ap (λ (c : Counts). c .nodes) e
 
 counted-edges : (d : Diagram) (k : Counts) → k ≡ countsOf d → k .edges ≡ length (d .edges)

@@ -1,28 +1,26 @@
 -- One more edge: what the code's reads and writes mean for the diagram.
 use mathlib.Core.Path.{_≡_, refl, sym, ap, subst, _∙_}
-use mathlib.Core.Bool.{Bool, true, false}
-use mathlib.Core.List.{List, [], _∷_, _++_}
-use Prim.Native.Nat.{ℕ, suc, _+_, _-_, _*_, _<_, _≤_}
+use mathlib.Core.Bool.{true, false}
+use mathlib.Core.List.{List}
+use Prim.Native.Nat.{ℕ, suc, _+_, _*_, _<_, _≤_}
 use native.Mathlib.Nat.{suc-mul}
 use native.Mathlib.Omega.{arith}
 use lib.Dec.{ltb}
-use lib.ListN.{length, set, drop, length-set, length-drop, length-append}
+use lib.ListN.{length, drop, length-set, length-drop, length-append}
 use lib.Seq.{getD-drop, drop-set-add}
 use borrow.Author.Tests.{lt-ltb, le-ltb}
-use Rattle.diagram.specs.Node.{Node, Edge, noNode, nodeAt}
+use Rattle.diagram.specs.Node.{Node, noNode, nodeAt}
 use Rattle.diagram.specs.Tables.{Diagram}
-use Rattle.diagram.specs.Run.{Settings, Run, going, stopped, need}
-use Rattle.diagram.specs.Rule4.{handed, receive, landed, pushEdge, addEdge}
-use Rattle.layout.specs.Table.{over}
-use Rattle.layout.specs.Rows.{nodeWords, edgeWords, nodeTable, edgeTable}
+use Rattle.diagram.specs.Run.{Settings, need}
+use Rattle.diagram.specs.Rule4.{receive, landed, pushEdge, addEdge}
+use Rattle.layout.specs.Rows.{nodeWords, edgeWords}
 use Rattle.rows.specs.Access.{NodeRead, EdgeWritten, NodeWritten}
 use Rattle.branch.specs.declared.Counts.{Counts}
 use Rattle.branch.specs.declared.Rooms.{Rooms}
-use Rattle.branch.specs.declared.Step.{Step}
 use Rattle.branch.specs.declared.Step.the-variants.{Going, Stopped}
 use Rattle.branch.specs.declared.Parent.{Parent}
 use Rattle.branch.specs.declared.Branch.{Branch}
-use Rattle.branch.specs.State.{Fit, countsOf, stepOf, diagramOf, ComingHeld, Told, Stands, ComingStepped, EdgeAdded}
+use Rattle.branch.specs.State.{countsOf, ComingHeld, Told, ComingStepped, EdgeAdded}
 
 -- no room
 pub edge-refused : (first : ℕ) (k : Counts) (rooms : Rooms) (p : Parent) (row : ℕ) (b : Branch) (cs es : List ℕ) → rooms .edges ≤ k .edges → EdgeAdded first k rooms p row b cs es (Stopped 12 k) cs es
@@ -37,7 +35,7 @@ edge-refused first k rooms p row b cs es h =
     }
 
 -- the tables after one more edge into row c, where the coming layer's part was written at that row and the edge table at its next row
-pub edge-held : (d : Diagram) (oldN oldE cs es : List ℕ) (p row decision cost : ℕ) (x : Node) (cs′ es′ : List ℕ) → ComingHeld d oldN oldE cs es → d .start + row < length (d .nodes) → suc (length (d .edges)) * edgeWords ≤ length oldE
+edge-held : (d : Diagram) (oldN oldE cs es : List ℕ) (p row decision cost : ℕ) (x : Node) (cs′ es′ : List ℕ) → ComingHeld d oldN oldE cs es → d .start + row < length (d .nodes) → suc (length (d .edges)) * edgeWords ≤ length oldE
     → x ≡ landed (d .nodes) (d .edges) p cost (nodeAt (d .nodes) (d .start + row))
     → NodeWritten cs row x cs′
     → EdgeWritten es (length (d .edges)) (record { from = p; to = d .start + row; decision = decision; cost = cost; next = nodeAt (d .nodes) (d .start + row) .newest }) es′

@@ -1,8 +1,7 @@
 -- The state of a run as the code holds it, and what each function of `branch` promises of it.
 use mathlib.Core.Path.{_≡_}
-use mathlib.Core.Bool.{Bool}
 use mathlib.Core.List.{List}
-use Prim.Native.Nat.{ℕ, suc, _+_, _-_, _*_, _<_, _≤_}
+use Prim.Native.Nat.{ℕ, suc, _+_, _*_, _<_, _≤_}
 use lib.ListN.{length, drop}
 use Rattle.diagram.specs.Node.{Node, nodeAt}
 use Rattle.diagram.specs.Tables as Def

@@ -1,8 +1,7 @@
 // `_branch_on` of clean.rs: the child of a node by one decision, new or already in the coming layer, with the edge to it.
 ghost use mathlib.Core.Path.{_≡_};
-ghost use mathlib.Core.Bool.{cond, _&&_};
-ghost use mathlib.Core.List.{List};
-ghost use Prim.Native.Nat.{ℕ, suc, _+_, _-_, _*_, _<_, _≤_};
+ghost use mathlib.Core.Bool.{cond};
+ghost use Prim.Native.Nat.{_+_, _*_, _<_, _≤_};
 ghost use lib.ListN.{length};
 ghost use Rattle.diagram.specs.Node.{fresh};
 ghost use Rattle.diagram.specs.Rule4.{receive};
@@ -36,16 +35,16 @@ pub enum Step {
 }
 
 // A row of the coming layer, counted from its first, or none.
-pub enum Found {
+enum Found {
     At(usize),
     Nothing,
 }
 
 // What a child is told of its parent: its row, its exactness, and the value that it hands over.
-pub struct Parent {
-    pub id: NodeId,
-    pub value: u64,
-    pub exact: bool,
+struct Parent {
+    id: NodeId,
+    value: u64,
+    exact: bool,
 }
 
 // A decision with its cost, and the child's capacity and depth.
@@ -73,16 +72,11 @@ fn lookup(coming: &[u64], count: usize, capacity: u64) -> Found
     }
 }
 
-fn pick(first: bool, a: u64, b: u64) -> u64
+// The first number or the second, by a call, so that `enter` has one way through.
+fn choose(first: bool, a: u64, b: u64) -> u64
     ensures { λ r. ⌜ r ≡ cond first a b ⌝ }
 {
     if first { a } else { b }
-}
-
-fn both(a: bool, b: bool) -> bool
-    ensures { λ r. ⌜ r ≡ (a && b) ⌝ }
-{
-    if a { b } else { false }
 }
 
 // Edge e, from parent p, comes into node n.
@@ -96,12 +90,12 @@ fn enter(n: Node, e: EdgeId, p: Parent) -> Node
     Node {
         capacity: n.capacity,
         depth: n.depth,
-        value: pick(better, p.value, n.value),
+        value: choose(better, p.value, n.value),
         bottom: n.bottom,
-        best: Link(pick(better, link, best)),
+        best: Link(choose(better, link, best)),
         newest: Link(link),
         fast: n.fast,
-        exact: both(p.exact, n.exact),
+        exact: words::both(p.exact, n.exact),
         relaxed: n.relaxed,
         marked: n.marked,
         cutset: n.cutset,
@@ -160,7 +154,7 @@ pub fn new_node(capacity: u64, depth: u64, value: u64, exact: bool) -> Node
         bottom: 0,
         best: Link(0),
         newest: Link(0),
-        fast: 18446744073709551615,
+        fast: words::TOP,
         exact: exact,
         relaxed: false,
         marked: false,

@@ -10,30 +10,25 @@ use lib.IntN.{ℤ, ℤ-discrete}
 use lib.ListN.{length, getD}
 use Rattle.words.specs.I64.{mid, word}
 use Rattle.words.proofs.Laws.{word-natural}
-use Rattle.knapsack.specs.Items.{Item, counted}
-use Rattle.calls.specs.Asked.{Problem, Given, itemsOf, recordOf}
-use Rattle.calls.specs.Rows.{Row7, Row8, Row9, namings, takenWeight, takenProfit}
+use Rattle.knapsack.specs.Items.{Item, noItem, counted}
+use Rattle.knapsack.proofs.Limits.{length-items}
+use Rattle.calls.specs.Asked.{Problem, Given, itemsOf, itemsIn, recordOf}
+use Rattle.calls.specs.Rows.{Row1, Row5, Row7, Row8, Row9, namings, takenWeight, takenProfit}
 use Rattle.calls.specs.Table.{problemRows, recordRows, Clear, end, past}
 use Rattle.calls.specs.Refusals.{compileRefusal}
 use Rattle.calls.proofs.Refusals.{accepted-exactly}
-use Rattle.theorems.proofs.Path.{noItem, share, sumTaken, namesIt, timesNamed, Valid}
-
--- the items of a problem
-abbrev pub itemsIn : Problem → List Item
-itemsIn p = itemsOf (p .weights) (p .profits)
+use Rattle.theorems.proofs.Path.{share, sumTaken, namesIt, timesNamed, Valid}
 
 -- what isn't different is equal, of numbers that can be compared
-not-different : (a b : ℕ) → ¬ (a ≢ b) → a ≡ b
+pub not-different : (a b : ℕ) → ¬ (a ≢ b) → a ≡ b
 not-different a b h = elim (ℕ-discrete a b) [ yes e ↦ e | no n ↦ absurd (h n) ]
 
-not-different-i64 : (a b : ℤ) → ¬ (a ≢ b) → a ≡ b
+pub not-different-i64 : (a b : ℤ) → ¬ (a ≢ b) → a ≡ b
 not-different-i64 a b h = elim (ℤ-discrete a b) [ yes e ↦ e | no n ↦ absurd (h n) ]
 
-items-count : (ws ps : List ℕ) → length ws ≡ length ps → length (itemsOf ws ps) ≡ length ws
-unfolding itemsOf
-items-count [] ps e = refl
-items-count (w ∷ ws) [] e = absurd (omega arith)
-items-count (w ∷ ws) (p ∷ ps) e = let q : length ws ≡ length ps = omega arith in ap suc (items-count ws ps q)
+-- 1 and 5 don't apply: as many items as weights, and their profits are small
+pub count-of : (p : Problem) → ¬ Row1 p → length (itemsIn p) ≡ length (p .weights)
+count-of p a1 = length-items (p .weights) (p .profits) (not-different _ _ a1)
 
 profits-small : (ws ps : List ℕ) → ((q : ℕ) → List·Memᴰ q ps → q ≤ 1000000) → (i : ℕ) → getD (itemsOf ws ps) i noItem .profit ≤ 1000000
 unfolding itemsOf
@@ -42,18 +37,21 @@ profits-small (w ∷ ws) [] h i = omega arith
 profits-small (w ∷ ws) (p ∷ ps) h zero = h p (List·Memᴰ·head refl)
 profits-small (w ∷ ws) (p ∷ ps) h (suc i) = profits-small ws ps (λ q m. h q (List·Memᴰ·tail m)) i
 
+pub small-of : (p : Problem) → ¬ Row5 p → (i : ℕ) → getD (itemsIn p) i noItem .profit ≤ 1000000
+small-of p a5 i = profits-small (p .weights) (p .profits) (λ q m. elim (decLe q 1000000) [ yes h ↦ h | no k ↦ absurd (a5 (q, m, omega arith)) ]) i
+
 -- what 8 and 9 count and add up is what the theorems count and add up
-same-namings : (d : ℕ) (path : List ℕ) → namings d path ≡ timesNamed d path
+pub same-namings : (d : ℕ) (path : List ℕ) → namings d path ≡ timesNamed d path
 unfolding namings timesNamed namesIt
 same-namings d [] = refl
 same-namings d (b ∷ path) = omega (arith, same-namings d path)
 
-same-weight : (items : List Item) (path : List ℕ) → takenWeight items path ≡ sumTaken (λ i. counted (i .weight)) items path
+pub same-weight : (items : List Item) (path : List ℕ) → takenWeight items path ≡ sumTaken (λ i. counted (i .weight)) items path
 unfolding takenWeight sumTaken share
 same-weight items [] = refl
 same-weight items (b ∷ path) = omega (arith, same-weight items path)
 
-same-profit : (items : List Item) (path : List ℕ) → takenProfit items path ≡ sumTaken (λ i. i .profit) items path
+pub same-profit : (items : List Item) (path : List ℕ) → takenProfit items path ≡ sumTaken (λ i. i .profit) items path
 unfolding takenProfit sumTaken share
 same-profit items [] = refl
 same-profit items (b ∷ path) = omega (arith, same-profit items path)
@@ -66,10 +64,12 @@ pub record Accepted (p : Problem) (g : Given) : Type 0 where
   pub narrow : p .width ≤ 256
   pub valid : Valid (itemsIn p) (p .page) (recordOf g)
 
-valid-record : (p : Problem) (g : Given) → length (itemsIn p) ≡ length (p .weights) → ¬ Row7 p g → ¬ Row8 p g → ¬ Row9 p g → Valid (itemsIn p) (p .page) (recordOf g)
+-- 1 and 7 to 9 don't apply
+pub valid-of : (p : Problem) (g : Given) → ¬ Row1 p → ¬ Row7 p g → ¬ Row8 p g → ¬ Row9 p g → Valid (itemsIn p) (p .page) (recordOf g)
 unfolding recordOf
-valid-record p g n a7 a8 a9 =
+valid-of p g a1 a7 a8 a9 =
     let items = itemsIn p in
+    let n = count-of p a1 in
     record {
       deep = elim (decLe (g .depth) (length (p .weights))) [ yes h ↦ omega arith | no h ↦ absurd (a7 (inl (omega arith))) ];
       long = not-different _ _ (λ h. a7 (inr h));
@@ -80,13 +80,12 @@ valid-record p g n a7 a8 a9 =
 
 clear-accepted : (p : Problem) (g : Given) → Clear (problemRows p ++ recordRows p g) → Accepted p g
 clear-accepted p g (past a1 (past a2 (past a3 (past a4 (past a5 (past a6 (past a7 (past a8 (past a9 end))))))))) =
-    let n = items-count (p .weights) (p .profits) (not-different _ _ a1) in
     record {
-      few = omega arith;
-      small = profits-small (p .weights) (p .profits) (λ q m. elim (decLe q 1000000) [ yes h ↦ h | no k ↦ absurd (a5 (q, m, omega arith)) ]);
+      few = omega (arith, count-of p a1);
+      small = small-of p a5;
       wide = elim (decLe 1 (p .width)) [ yes h ↦ h | no k ↦ absurd (a6 (inl (omega arith))) ];
       narrow = elim (decLe (p .width) 256) [ yes h ↦ h | no k ↦ absurd (a6 (inr (omega arith))) ];
-      valid = valid-record p g n a7 a8 a9;
+      valid = valid-of p g a1 a7 a8 a9;
     }
 
 pub accepted : (p : Problem) (g : Given) → compileRefusal p g ≡ none → Accepted p g

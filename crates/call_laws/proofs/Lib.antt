@@ -1,7 +1,6 @@
 -- The proofs of the statements about the whole call `compile`.
 pub mod View
 pub mod Accepted
-pub mod Rows
 pub mod Refusals
 pub mod Sizes
 pub mod Tables

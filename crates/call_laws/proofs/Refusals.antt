@@ -1,5 +1,5 @@
 -- Compile's refusals are document 01's table, 1 to 13: a number is given exactly if its row is the first that applies, and none exactly if none does.
-use mathlib.Core.Path.{_≡_, refl, ap, subst, _∙_}
+use mathlib.Core.Path.{_≡_, refl, sym, ap, subst, _∙_}
 use mathlib.Core.List.{_++_}
 use mathlib.Core.Logic.{_⊎_, inl, inr, _≢_}
 use mathlib.Core.Option.{none, some}
@@ -17,10 +17,10 @@ use Rattle.calls.specs.Refusals.{compileRefusal}
 use Rattle.calls.specs.Compile.{Request, Lent, Rooms, roomsOf, Compiled, Answer, refused, compiled, Effect, effect, settingsOf, runOf, after, compile}
 use Rattle.calls.specs.RunRows.{Row10, Row11, Row12, Row13}
 use Rattle.calls.specs.Table.{problemRows, recordRows, runRows, compileRows, First, here, later, Clear, end, past}
+use Rattle.calls.proofs.Rows.{first-in-front, first-behind, clear-both, Between, first-between, Told, told-number, told-clear, told-exactly, told-none}
 use Rattle.calls.proofs.Refusals.{refused-exactly, accepted-exactly}
-use Rattle.call_laws.specs.Statements.{RefusedExactly, CompiledExactly, RunStops, Refuses1to13, Never14Or15, TenIsExact}
+use Rattle.call_laws.specs.Statements.{RefusedExactly, CompiledExactly, RunStops, CompileNumbers, Never14Or15, TenIsExact}
 use Rattle.call_laws.proofs.Accepted.{accepted}
-use Rattle.call_laws.proofs.Rows.{first-unique, first-not-clear, first-in-front, first-behind, clear-both, Between, first-between}
 use Rattle.call_laws.proofs.View.{View, early, halted, overfull, done, view}
 
 -- ---- a run stops with 10, 11 or 12
@@ -47,22 +47,22 @@ run-stops q l n d e = which (run-stop q (roomsOf l) n d e)
 other-stop : (q : Request) (m : Rooms) (n k : ℕ) (d : Diagram) → runOf q m ≡ stoppedAt k d → n ≢ k → ¬ ((e : Diagram) × (runOf q m ≡ stoppedAt n e))
 other-stop q m n k d e h z = let w = z .1 in let y : n ≡ k = cc in h y
 
-finished-stop : (q : Request) (m : Rooms) (n : ℕ) (o : Outcome) → runOf q m ≡ finished o → ¬ ((e : Diagram) × (runOf q m ≡ stoppedAt n e))
+pub finished-stop : (q : Request) (m : Rooms) (n : ℕ) (o : Outcome) → runOf q m ≡ finished o → ¬ ((e : Diagram) × (runOf q m ≡ stoppedAt n e))
 finished-stop q m n o e z = let w = z .1 in let y : _≡_ {A = ℕ} 0 1 = cc in omega arith
 
-stop-row : (q : Request) (m : Rooms) (d : Diagram) {n : ℕ} → Stop n → runOf q m ≡ stoppedAt n d → First (runRows q m) n
+pub stop-row : (q : Request) (m : Rooms) (d : Diagram) {n : ℕ} → Stop n → runOf q m ≡ stoppedAt n d → First (runRows q m) n
 stop-row q m d ten e = let s : Row10 q m = (d, e) in here s
 stop-row q m d eleven e = let s : Row11 q m = (d, e) in later (other-stop q m 10 11 d e (λ z. omega arith)) (here s)
 stop-row q m d twelve e =
     let s : Row12 q m = (d, e) in
     later (other-stop q m 10 12 d e (λ z. omega arith)) (later (other-stop q m 11 12 d e (λ z. omega arith)) (here s))
 
-drained-row : (q : Request) (m : Rooms) (o : Outcome) → runOf q m ≡ finished o → m .records < length (drained (q .given .path) o) → First (runRows q m) 13
+pub drained-row : (q : Request) (m : Rooms) (o : Outcome) → runOf q m ≡ finished o → m .records < length (drained (q .given .path) o) → First (runRows q m) 13
 drained-row q m o e h =
     let s : Row13 q m = (o, e, h) in
     later (finished-stop q m 10 o e) (later (finished-stop q m 11 o e) (later (finished-stop q m 12 o e) (here s)))
 
-same-outcome : (q : Request) (m : Rooms) (o p : Outcome) → runOf q m ≡ finished o → runOf q m ≡ finished p → p ≡ o
+pub same-outcome : (q : Request) (m : Rooms) (o p : Outcome) → runOf q m ≡ finished o → runOf q m ≡ finished p → p ≡ o
 same-outcome q m o p e f = cc
 
 room-left : (q : Request) (m : Rooms) (o : Outcome) → runOf q m ≡ finished o → length (drained (q .given .path) o) ≤ m .records → ¬ Row13 q m
@@ -71,51 +71,40 @@ room-left q m o e h z =
     let k : m .records < length (drained (q .given .path) o) = rw (← s) (z .2) in
     omega arith
 
-done-rows : (q : Request) (m : Rooms) (o : Outcome) → runOf q m ≡ finished o → length (drained (q .given .path) o) ≤ m .records → Clear (runRows q m)
+pub done-rows : (q : Request) (m : Rooms) (o : Outcome) → runOf q m ≡ finished o → length (drained (q .given .path) o) ≤ m .records → Clear (runRows q m)
 done-rows q m o e h = past (finished-stop q m 10 o e) (past (finished-stop q m 11 o e) (past (finished-stop q m 12 o e) (past (room-left q m o e h) end)))
 
 -- ---- the whole table
 
--- the answer as the table tells it
-data Told (q : Request) (m : Rooms) : Answer → Type 1 where
-  told-number : {n : ℕ} → First (compileRows q m) n → Told q m (refused n)
-  told-clear : {c : Compiled} → Clear (compileRows q m) → Told q m (compiled c)
-
 clear-nine : (q : Request) → compileRefusal (q .problem) (q .given) ≡ none → Clear (problemRows (q .problem) ++ recordRows (q .problem) (q .given))
 clear-nine q e = accepted-exactly (q .problem) (q .given) .0 e
 
-answer-told : (q : Request) (m : Rooms) {x : Effect} → View q m x → Told q m (x .answer)
+no-number : (c : Compiled) (n : ℕ) → compiled c ≢ refused n
+no-number c n e = let z : _≡_ {A = ℕ} 0 1 = cc in omega arith
+
+answer-told : (q : Request) (m : Rooms) {x : Effect} → View q m x → Told refused (compileRows q m) (x .answer)
 unfolding effect
 answer-told q m (early n e) = told-number (first-in-front (runRows q m) (refused-exactly (q .problem) (q .given) n .0 e))
 answer-told q m (halted n d e f) = told-number (first-behind (clear-nine q e) (stop-row q m d (run-stop q m n d f) f))
 answer-told q m (overfull o e f h) = told-number (first-behind (clear-nine q e) (drained-row q m o f h))
-answer-told q m (done o e f h) = told-clear (clear-both (clear-nine q e) (done-rows q m o f h))
+answer-told q m (done o e f h) = told-clear (no-number _) (clear-both (clear-nine q e) (done-rows q m o f h))
 
-compile-told : (q : Request) (l : Lent) → Told q (roomsOf l) (compile q l .answer)
+compile-told : (q : Request) (l : Lent) → Told refused (compileRows q (roomsOf l)) (compile q l .answer)
 unfolding compile after
 compile-told q l = answer-told q (roomsOf l) (view q (roomsOf l))
 
-number-told : (q : Request) (m : Rooms) (n : ℕ) {a : Answer} → Told q m a → a ≡ refused n → First (compileRows q m) n
-number-told q m n (told-number {n = k} f) e = let z : k ≡ n = cc in subst (λ (i : ℕ). First (compileRows q m) i) z f
-number-told q m n (told-clear c) e = let z : _≡_ {A = ℕ} 0 1 = cc in absurd (omega arith)
-
-told-refused : (q : Request) (m : Rooms) (n : ℕ) {a : Answer} → Told q m a → First (compileRows q m) n → a ≡ refused n
-told-refused q m n (told-number f) g = ap refused (first-unique f g)
-told-refused q m n (told-clear c) g = absurd (first-not-clear g c)
-
 pub refused-exactly-by-table : RefusedExactly
-refused-exactly-by-table q l n = (number-told q (roomsOf l) n (compile-told q l), told-refused q (roomsOf l) n (compile-told q l))
+refused-exactly-by-table q l n = told-exactly (λ i j e. cc) (compile-told q l) n
 
-clear-told : (q : Request) (m : Rooms) (c : Compiled) {a : Answer} → Told q m a → a ≡ compiled c → Clear (compileRows q m)
-clear-told q m c (told-number f) e = let z : _≡_ {A = ℕ} 0 1 = cc in absurd (omega arith)
-clear-told q m c (told-clear d) e = d
-
-told-compiled : (q : Request) (m : Rooms) {a : Answer} → Told q m a → Clear (compileRows q m) → (c : Compiled) × (a ≡ compiled c)
-told-compiled q m (told-number f) d = absurd (first-not-clear f d)
-told-compiled q m (told-clear {c = c} e) d = (c, refl)
+-- an answer is a number or compiled
+compiled-or : (a : Answer) → ((n : ℕ) → a ≢ refused n) → (c : Compiled) × (a ≡ compiled c)
+compiled-or (refused n) h = absurd (h n refl)
+compiled-or (compiled c) h = (c, refl)
 
 pub compiled-exactly-if-clear : CompiledExactly
-compiled-exactly-if-clear q l = ((λ c e. clear-told q (roomsOf l) c (compile-told q l) e), told-compiled q (roomsOf l) (compile-told q l))
+compiled-exactly-if-clear q l =
+    let t = told-none (compile-told q l) in
+    ((λ c e. t .0 (λ n f. no-number c n (sym e ∙ f))), (λ d. compiled-or (compile q l .answer) (t .1 d)))
 
 -- ---- which numbers
 
@@ -125,11 +114,11 @@ numbers-1-to-9 q = omega arith
 numbers-1-to-13 : (q : Request) (m : Rooms) → Between 1 13 (compileRows q m)
 numbers-1-to-13 q m = omega arith
 
-pub refuses-1-to-13 : Refuses1to13
-refuses-1-to-13 q l n e = first-between 1 13 (numbers-1-to-13 q (roomsOf l)) (refused-exactly-by-table q l n .0 e)
+pub compile-numbers : CompileNumbers
+compile-numbers q l n e = first-between 1 13 (numbers-1-to-13 q (roomsOf l)) (refused-exactly-by-table q l n .0 e)
 
 pub never-14-or-15 : Never14Or15
-never-14-or-15 q l = ((λ e. omega (arith, refuses-1-to-13 q l 14 e)), (λ e. omega (arith, refuses-1-to-13 q l 15 e)))
+never-14-or-15 q l = ((λ e. omega (arith, compile-numbers q l 14 e)), (λ e. omega (arith, compile-numbers q l 15 e)))
 
 -- a refusal of the first nine rows has a number of 1 to 9
 pub early-number : (q : Request) (n : ℕ) → compileRefusal (q .problem) (q .given) ≡ some n → (1 ≤ n) × (n ≤ 9)
@@ -142,7 +131,7 @@ unfolding finish
 grown-stop m k n d (going e) q = let z : _≡_ {A = ℕ} 0 1 = cc in absurd (omega arith)
 grown-stop m k n d (stopped i e) q = let a : i ≡ n = cc in let b : e ≡ d = cc in cc
 
-not-ten : (q : Request) (m : Rooms) (d : Diagram) → compileRefusal (q .problem) (q .given) ≡ none → runOf q m ≡ stoppedAt 10 d → q .mode ≢ exactly → ⊥
+pub not-ten : (q : Request) (m : Rooms) (d : Diagram) → compileRefusal (q .problem) (q .given) ≡ none → runOf q m ≡ stoppedAt 10 d → q .mode ≢ exactly → ⊥
 unfolding runOf settingsOf run
 not-ten q m d c e h = never-ten (settingsOf q m) (itemsOf (q .problem .weights) (q .problem .profits)) (recordOf (q .given)) d h (accepted (q .problem) (q .given) c .narrow) (grown-stop (q .mode) (q .kind) 10 d _ e)
 

@@ -16,41 +16,34 @@ use Rattle.diagram.specs.After6.{Outcome, outcome, drainRows, drainFor, drained
 use Rattle.layout.specs.Table.{wordsOf, over}
 use Rattle.layout.specs.Rows.{nodeWords, edgeWords, encodeNode, encodeEdge, nodeTable, edgeTable}
 use Rattle.layout.specs.Records.{recordWords, recordTable}
+use Rattle.layout.proofs.Rows.{node-width, edge-width}
 use Rattle.layout.proofs.Records.{record-length}
 use Rattle.layout.proofs.Table.{length-words}
 use Rattle.theorems.proofs.Fits.{Fits, FitRun, refusal, outcome-is, run-fits}
 use Rattle.theorems.proofs.Runs.{compiled as finished-run}
 use Rattle.theorems.proofs.Leads.{run-drains}
-use Rattle.calls.specs.Asked.{recordOf}
+use Rattle.calls.specs.Asked.{itemsIn, recordOf}
 use Rattle.calls.specs.Refusals.{compileRefusal}
 use Rattle.calls.specs.Compile.{Request, Lent, Rooms, roomsOf, Effect, effect, settingsOf, runOf, compileEffect}
 use Rattle.call_laws.specs.Statements.{Leaves}
-use Rattle.call_laws.proofs.Accepted.{itemsIn, Accepted, accepted}
+use Rattle.call_laws.proofs.Accepted.{Accepted, accepted}
 use Rattle.call_laws.proofs.View.{View, early, halted, overfull, done, view}
 
 -- ---- words
 
-node-long : (n : Node) → length (encodeNode n) ≡ nodeWords
-unfolding encodeNode
-node-long n = refl
-
-edge-long : (e : Edge) → length (encodeEdge e) ≡ edgeWords
-unfolding encodeEdge
-edge-long e = refl
-
-nodes-long : (ns : List Node) → length (nodeTable ns) ≡ length ns * nodeWords
+pub nodes-long : (ns : List Node) → length (nodeTable ns) ≡ length ns * nodeWords
 unfolding nodeTable
-nodes-long ns = length-words encodeNode nodeWords node-long ns
+nodes-long ns = length-words encodeNode nodeWords node-width ns
 
-edges-long : (es : List Edge) → length (edgeTable es) ≡ length es * edgeWords
+pub edges-long : (es : List Edge) → length (edgeTable es) ≡ length es * edgeWords
 unfolding edgeTable
-edges-long es = length-words encodeEdge edgeWords edge-long es
+edges-long es = length-words encodeEdge edgeWords edge-width es
 
 -- the records' paths have room
-abbrev Short : List Record → Type 0
+abbrev pub Short : List Record → Type 0
 Short rs = (r : Record) → List·Memᴰ r rs → length (r .path) ≤ pathRoom
 
-records-long : (rs : List Record) → Short rs → length (recordTable rs) ≡ length rs * recordWords
+pub records-long : (rs : List Record) → Short rs → length (recordTable rs) ≡ length rs * recordWords
 unfolding recordTable wordsOf
 records-long [] h = refl
 records-long (r ∷ rs) h =

@@ -16,10 +16,9 @@ use Rattle.theorems.proofs.Fits.{Stop, ten, eleven, twelve, outcome-long}
 use Rattle.theorems.proofs.Links.{Wired, grown-wired, parent-smaller}
 use Rattle.theorems.proofs.Rooms.{withRooms, run-more-room}
 use Rattle.theorems.proofs.Runs.{compiled as finished-run, tables-hold}
-use Rattle.calls.specs.Asked.{recordOf}
+use Rattle.calls.specs.Asked.{itemsIn, recordOf}
 use Rattle.calls.specs.Compile.{Request, Lent, Rooms, roomsOf, Compiled, Answer, refused, compiled, compiledOf, Effect, effect, settingsOf, runOf, compileEffect, after, compile}
 use Rattle.call_laws.specs.Statements.{OneAnswer, Words, Writes, WritesWithin, Alike, SameLengths, LengthsStay, OldContentsNeverEnter, MoreRoom, EarlyWritesNothing, RefusedKeepsList, HoldsRows, StoppedHolds, ThirteenHolds, CompiledHolds, ParentsSmaller}
-use Rattle.call_laws.proofs.Accepted.{itemsIn}
 use Rattle.call_laws.proofs.View.{View, early, halted, overfull, done, view, done-effect}
 use Rattle.call_laws.proofs.Sizes.{effect-in, laid-over}
 use Rattle.call_laws.proofs.Refusals.{early-number, run-stop}

@@ -38,8 +38,8 @@ RunStops =
     (q : Request) (l : Lent) (n : ℕ) (d : Diagram) → runOf q (roomsOf l) ≡ stoppedAt n d → (n ≡ 10) ⊎ ((n ≡ 11) ⊎ (n ≡ 12))
 
 -- So compile refuses with 1 to 13 alone.
-abbrev pub Refuses1to13 : Type 0
-Refuses1to13 = (q : Request) (l : Lent) (n : ℕ) → compile q l .answer ≡ refused n → (1 ≤ n) × (n ≤ 13)
+abbrev pub CompileNumbers : Type 0
+CompileNumbers = (q : Request) (l : Lent) (n : ℕ) → compile q l .answer ≡ refused n → (1 ≤ n) × (n ≤ 13)
 
 -- '14 is only for picks; 15 only for job text'
 abbrev pub Never14Or15 : Type 0
@@ -105,7 +105,7 @@ pub record Roomier (l l′ : Lent) : Type 0 where
 abbrev pub MoreRoom : Type 0
 MoreRoom = (q : Request) (l l′ : Lent) (c : Compiled) → compile q l .answer ≡ compiled c → Roomier l l′ → Alike q l l′
 
--- '1 to 9 write nothing.'
+-- '1 to 9 … write nothing.'
 abbrev pub EarlyWritesNothing : Type 0
 EarlyWritesNothing = (q : Request) (l : Lent) (n : ℕ) → compile q l .answer ≡ refused n → n ≤ 9 → compile q l .lent ≡ l
 

@@ -1,17 +1,16 @@
 -- Compile's refusals are document 01's table: a number is given exactly if its row is the first that applies, and none exactly if none does.
 use mathlib.Core.Path.{_≡_, refl, subst}
-use mathlib.Core.Bool.{Bool, true, false, not, _||_}
+use mathlib.Core.Bool.{Bool, true, false, not}
 use mathlib.Core.List.{List, [], _∷_, _++_}
-use mathlib.Core.Option.{Option, none, some}
+use mathlib.Core.Option.{none, some}
 use Prim.Native.Nat.{ℕ, _+_}
 use native.Mathlib.Omega.{arith}
 use lib.Dec.{ltb, eqb}
-use lib.IntN.{ℤ, pos}
 use lib.ListN.{length}
 use Rattle.calls.specs.Asked.{Problem, Given, itemsOf}
-use Rattle.calls.specs.Rows.{namings, takenWeight, takenProfit}
+use Rattle.calls.specs.Rows.{takenWeight, takenProfit}
 use Rattle.calls.specs.Table.{Row, row, problemRows, recordRows, First, here, later, Clear, end, past}
-use Rattle.calls.specs.Refusals.{Check, firstOf, someAbove, eachOnce, isNatural, problemChecks, recordChecks, compileRefusal}
+use Rattle.calls.specs.Refusals.{Check, firstOf, isNatural, problemChecks, recordChecks, compileRefusal}
 use Rattle.calls.proofs.Tests.{Decides, by-less, by-equal, by-not, by-or, by-some-above, by-each-once, by-natural}
 
 -- The checks are the rows: the same numbers in the same order, each test deciding what its row says.

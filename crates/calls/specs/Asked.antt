@@ -3,6 +3,7 @@ use mathlib.Core.List.{List}
 use Prim.Native.Nat.{ℕ}
 use lib.IntN.{ℤ}
 use Rattle.words.specs.I64.{word}
+use Rattle.knapsack.specs.Items.{Item}
 unfoldable pub use Rattle.knapsack.specs.Items.{itemsOf}
 use Rattle.diagram.specs.Record.{Record}
 use Rattle.diagram.specs.Run.{Mode}
@@ -14,6 +15,10 @@ pub record Problem : Type 0 where
   pub profits : List ℕ
   pub page : ℕ
   pub width : ℕ
+
+-- 'Item d, in given order'
+abbrev pub itemsIn : Problem → List Item
+itemsIn p = itemsOf (p .weights) (p .profits)
 
 -- A record as it is handed in: value and bound are i64, the path is bytes of any number.
 pub record Given : Type 0 where

@@ -1,4 +1,4 @@
--- The public calls of document 01.
+-- The call `compile`: what it is asked, document 01's refusals as rows and as tests, its answer, what it leaves, and figures. Start and pick are the crate `searches`.
 pub mod Asked
 pub mod Rows
 pub mod Refusals

@@ -7,7 +7,7 @@ use Prim.Native.Nat.{ℕ, zero, suc, _+_, _<_}
 use lib.Dec.{eqb}
 use lib.IntN.{ℤ, pos}
 use lib.ListN.{length, getD}
-use Rattle.knapsack.specs.Items.{Item, counted, itemOf, isTake}
+use Rattle.knapsack.specs.Items.{Item, noItem, counted, itemOf, isTake}
 use Rattle.calls.specs.Asked.{Problem, Given, itemsOf}
 
 -- 1 'weights and profits differ in number'
@@ -46,9 +46,6 @@ namings d (b ∷ bs) = cond (eqb (itemOf b) d) 1 0 + namings d bs
 -- 8 'the path doesn't name each item below depth exactly once'
 abbrev pub Row8 : Problem → Given → Type 0
 Row8 p r = (d : ℕ) × (d < r .depth) × (namings d (r .path) ≢ 1)
-
-abbrev pub noItem : Item
-noItem = record { weight = 0; profit = 0 }
 
 -- 'taken weights' and 'taken profits' of a path's bytes: sums without a limit
 unfoldable pub takenWeight : List Item → List ℕ → ℕ

@@ -14,11 +14,11 @@ StopsWith n q m = (d : Diagram) × (runOf q m ≡ stoppedAt n d)
 abbrev pub Row10 : Request → Rooms → Type 0
 Row10 q m = StopsWith 10 q m
 
--- 11 'the run needs a node row more than lent'
+-- 11 'the run needs a node row (11) … more than lent'
 abbrev pub Row11 : Request → Rooms → Type 0
 Row11 q m = StopsWith 11 q m
 
--- 12 'or edge row (12) more than lent'
+-- 12 'the run needs … edge row (12) more than lent'
 abbrev pub Row12 : Request → Rooms → Type 0
 Row12 q m = StopsWith 12 q m
 

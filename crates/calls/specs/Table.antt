@@ -1,4 +1,4 @@
--- Document 01's table of refusals as it stands: numbers with what each row says, and what 'the first that applies' means.
+-- Document 01's table of refusals as far as a compile can meet it, 1 to 13: numbers with what each row says, and what 'the first that applies' means.
 use mathlib.Core.List.{List, [], _∷_, _++_}
 use Prim.Native.Nat.{ℕ}
 use Rattle.calls.specs.Asked.{Problem, Given}
@@ -23,7 +23,7 @@ recordRows p r = row 7 (Row7 p r) ∷ row 8 (Row8 p r) ∷ row 9 (Row9 p r) ∷ 
 abbrev pub runRows : Request → Rooms → List Row
 runRows q m = row 10 (Row10 q m) ∷ row 11 (Row11 q m) ∷ row 12 (Row12 q m) ∷ row 13 (Row13 q m) ∷ []
 
--- the whole table, as far as a compile can meet it: 14 is only for picks, 15 only for job text
+-- the whole of it: '14 is only for picks; 15 only for job text'
 abbrev pub compileRows : Request → Rooms → List Row
 compileRows q m = (problemRows (q .problem) ++ recordRows (q .problem) (q .given)) ++ runRows q m
 

@@ -6,10 +6,10 @@ use Prim.Native.Nat.{ℕ, _≤_}
 use lib.Dec.{leb}
 use lib.ListN.{length}
 use Rattle.knapsack.specs.Items.{Item}
-use Rattle.diagram.specs.Node.{Node, Edge}
+use Rattle.diagram.specs.Node.{Edge}
 use Rattle.diagram.specs.Record.{Record}
 use Rattle.diagram.specs.Tables.{Range, Diagram, withNodes}
-use Rattle.diagram.specs.Run.{Mode, Settings, isRelaxing}
+use Rattle.diagram.specs.Run.{Mode, Settings}
 use Rattle.diagram.specs.After4.{CutsetKind}
 use Rattle.diagram.specs.After6.{Outcome, outcome, drained}
 use Rattle.layout.specs.Table.{over}
@@ -18,7 +18,6 @@ use Rattle.layout.specs.Records.{recordTable}
 use Rattle.calls.specs.Compile.{Effect, compiled, compiledOf, effect, drainInto}
 use Rattle.theorems.proofs.Fits.{outcome-long}
 use Rattle.branch.specs.declared.Counts.{Counts}
-use Rattle.branch.specs.State.{countsOf}
 use Rattle.layers.specs.declared.Layers.{Layers}
 use Rattle.layers.specs.declared.Last.{Last}
 use Rattle.layers.specs.Stored.{Sized, stored, lastOf, layersFrom}

@@ -6,7 +6,7 @@ use mathlib.Core.Option.{none}
 use Prim.Native.Nat.{ℕ, _-_, _≤_}
 use native.Mathlib.Nat.{div-mul-le-self}
 use native.Mathlib.Omega.{arith}
-use lib.ListN.{length, take, drop, replicate}
+use lib.ListN.{length, take, replicate}
 use lib.Seq.{take-append-seam}
 use Rattle.knapsack.specs.Items.{Item, itemsOf}
 use Rattle.diagram.specs.Record.{Record, pathRoom, padded}
@@ -16,8 +16,7 @@ use Rattle.diagram.specs.Run.{Mode, Settings, Run, going, stopped, isRelaxing}
 use Rattle.diagram.specs.Tables.{Diagram}
 use Rattle.diagram.specs.After4.{CutsetKind}
 use Rattle.diagram.specs.After6.{Outcome, outcome, finished, finish, run}
-use Rattle.layout.specs.Table.{over, wordsOf}
-use Rattle.layout.specs.Records.{recordTable}
+use Rattle.layout.proofs.Records.{over-none}
 use Rattle.calls.specs.Asked as Def
 use Rattle.calls.specs.Refusals.{compileRefusal}
 use Rattle.calls.specs.Compile as Call
@@ -28,7 +27,6 @@ use Rattle.branch.specs.declared.Counts.{Counts}
 use Rattle.branch.specs.declared.Step.the-variants.{Going, Stopped}
 use Rattle.branch.specs.State.{countsOf}
 use Rattle.layers.specs.declared.Last.{Last}
-use Rattle.cutset.specs.declared.Kind.{Kind}
 use Rattle.cutset.specs.Whole.{kindOf}
 use Rattle.grow.specs.declared.Growth.{Growth}
 use Rattle.grow.specs.declared.Task.{Task}
@@ -96,10 +94,6 @@ ran-for ws ps q path ns es places = refl
 
 -- ---- a run that stopped
 
-nothing-more : (rs : List ℕ) → rs ≡ over (recordTable []) rs
-unfolding over recordTable wordsOf
-nothing-more rs = refl
-
 stopped-by : (x : Run) (m : Mode) (k : CutsetKind) (path : List ℕ) (room : ℕ) (ns es rs : List ℕ) (g : Growth) (ns′ es′ : List ℕ) (n : ℕ) (c : Counts) (a : Answer) → Grew x ns es g ns′ es′ → g .step ≡ Stopped n c → a ≡ refusing n → Effected (effectOf path room (finish m k x)) ns es rs a ns′ es′ rs
 unfolding effectOf finish effect
 stopped-by (going d) m k path room ns es rs g ns′ es′ n c a w e z =
@@ -113,7 +107,7 @@ stopped-by (stopped j d) m k path room ns es rs g ns′ es′ n c a w e z =
       answer-is = z ∙ ap refusing y;
       nodes-are = w .stepped .held .nodes-are;
       edges-are = w .stepped .held .edges-are;
-      records-are = nothing-more rs;
+      records-are = sym (over-none rs);
     }
 
 -- it is not finished

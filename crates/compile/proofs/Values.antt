@@ -1,15 +1,15 @@
 -- The values that the small functions of `compile` make are those that the specs name.
-use mathlib.Core.Path.{_≡_, refl, ap, sym, _∙_}
+use mathlib.Core.Path.{_≡_, refl, ap, _∙_}
 use mathlib.Core.Bool.{true, false}
 use mathlib.Core.List.{List, [], reverse}
-use Prim.Native.Nat.{ℕ, _+_, _/_, _<_, _≤_}
+use Prim.Native.Nat.{ℕ, _/_, _<_, _≤_}
 use native.Mathlib.Omega.{arith}
 use lib.Dec.{leb}
-use lib.ListN.{length, getD, set, take}
+use lib.ListN.{length, take}
 use lib.Seq.{take-all}
 use borrow.Author.Tests.{le-leb, lt-leb}
 use Rattle.words.specs.I64.{word}
-use Rattle.diagram.specs.Record.{pathRoom, padded}
+use Rattle.diagram.specs.Record.{padded}
 use Rattle.diagram.specs.Tables.{Range}
 use Rattle.layout.specs.Rows.{edgeWords, nodeWords}
 use Rattle.layout.specs.Records.{recordWords}
@@ -19,7 +19,6 @@ use Rattle.layers.specs.Stored.{Sized, stored, layersFrom}
 use Rattle.layers.proofs.Whole.{as-stored}
 use Rattle.grow.specs.declared.Task.{Task}
 use Rattle.grow.specs.declared.Root.{Root}
-use Rattle.finish.proofs.Paths.{one-kept}
 use Rattle.cutset.specs.declared.Drained.{Drained}
 use Rattle.cutset.specs.declared.Drained.the-variants.{Records, TooMany}
 use Rattle.refusals.specs.declared.Verdict.the-variants.{Refused}
@@ -61,9 +60,6 @@ pub given-made : (q : Request) (path places : List ℕ) (words : ℕ) → places
 given-made q path places words e = rw e refl
 
 -- counted records against the places that there are
-pub none-listed : (x : Drained) (places : ℕ) → x ≡ TooMany → TooMany ≡ limited places x
-none-listed x places e = rw e refl
-
 pub over-limit : (x : Drained) (places n : ℕ) → x ≡ Records n → places < n → TooMany ≡ limited places x
 over-limit x places n e h = let t : leb n places ≡ false = lt-leb n places h in rw (e, t) refl
 

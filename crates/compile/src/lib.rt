@@ -7,7 +7,6 @@ ghost use lib.ListN.{length};
 ghost use Rattle.diagram.specs.Record.{padded};
 ghost use Rattle.calls.specs.Refusals.{compileRefusal};
 ghost use Rattle.calls.specs.Compile.{compile, roomsOf};
-ghost use Rattle.grow.specs.Told.{modeOf};
 ghost use Rattle.finalize.specs.Given.{Finalizable};
 ghost use Rattle.compile.specs.Asked.{problemOf, givenOf, requestOf, lentOf, taskFrom, rootFrom, givenFrom};
 ghost use Rattle.compile.specs.Answered.{refusing, finishing, ranEffect, Effected, Concluded, Answers};
@@ -28,7 +27,7 @@ use layers::Last;
 use layers::Layers;
 use refusals::Verdict;
 
-// What a compile is asked beside weights, profits and the record's path: the page and how to compile it, then the record.
+// What a compile is asked beside weights, profits and the record's path: the page and how to compile it, then the record. No run reads the record's bound.
 pub struct Request {
     pub page: u64,
     pub width: u64,
@@ -168,7 +167,8 @@ fn conclude(
     given: Given,
 ) -> Answer
     requires { ⌜ Finalizable k (g .start) (g .layers) (g .last) given (now nodes) (now edges) (now records) ⌝ }
-    ensures { λ a. ⌜ Concluded k g relaxed kind given (now (nodes .entry)) (now (edges .entry)) (now (records .entry)) a (now (nodes .exit)) (now (records .exit)) ⌝ }
+    ensures { λ a.
+        ⌜ Concluded k g relaxed kind given (now (nodes .entry)) (now (edges .entry)) (now (records .entry)) a (now (nodes .exit)) (now (records .exit)) ⌝ }
 {
     let start = g.start;
     let layers = g.layers;
@@ -200,7 +200,10 @@ fn run(
     path: &[u8],
 ) -> Answer
     requires { ⌜ compileRefusal (problemOf (now weights) (now profits) q) (givenOf q (now path)) ≡ none ⌝ }
-    ensures { λ a. ⌜ Effected (ranEffect (requestOf (now (weights .entry)) (now (profits .entry)) q (now (path .entry))) (roomsOf (lentOf (now (nodes .entry)) (now (edges .entry)) (now (records .entry))))) (now (nodes .entry)) (now (edges .entry)) (now (records .entry)) a (now (nodes .exit)) (now (edges .exit)) (now (records .exit)) ⌝ }
+    ensures { λ a.
+        ⌜ Effected
+        (ranEffect (requestOf (now (weights .entry)) (now (profits .entry)) q (now (path .entry))) (roomsOf (lentOf (now (nodes .entry)) (now (edges .entry)) (now (records .entry)))))
+        (now (nodes .entry)) (now (edges .entry)) (now (records .entry)) a (now (nodes .exit)) (now (edges .exit)) (now (records .exit)) ⌝ }
 {
     let t = task_of(q, nodes.len(), edges.len());
     let g = grow::grow(nodes, edges, weights, profits, t, root_of(q));
@@ -235,7 +238,10 @@ pub fn compile(
     q: Request,
     path: &[u8],
 ) -> Answer
-    ensures { λ a. ⌜ Answers (compile (requestOf (now (weights .entry)) (now (profits .entry)) q (now (path .entry))) (lentOf (now (nodes .entry)) (now (edges .entry)) (now (records .entry)))) a (now (nodes .exit)) (now (edges .exit)) (now (records .exit)) ⌝ }
+    ensures { λ a.
+        ⌜ Answers
+        (compile (requestOf (now (weights .entry)) (now (profits .entry)) q (now (path .entry))) (lentOf (now (nodes .entry)) (now (edges .entry)) (now (records .entry))))
+        a (now (nodes .exit)) (now (edges .exit)) (now (records .exit)) ⌝ }
 {
     let verdict = refusals::compile_refusal(
         weights,
@@ -312,7 +318,10 @@ fn run_counted(
     path: &[u8],
 ) -> Ran
     requires { ⌜ compileRefusal (problemOf (now weights) (now profits) q) (givenOf q (now path)) ≡ none ⌝ }
-    ensures { λ r. ⌜ RunCounted (requestOf (now (weights .entry)) (now (profits .entry)) q (now (path .entry))) (roomsFor (now (nodes .entry)) (now (edges .entry)) places) (now (nodes .entry)) (now (edges .entry)) r (now (nodes .exit)) (now (edges .exit)) ⌝ }
+    ensures { λ r.
+        ⌜ RunCounted (requestOf (now (weights .entry)) (now (profits .entry)) q (now (path .entry)))
+        (roomsFor (now (nodes .entry)) (now (edges .entry)) places) (now (nodes .entry)) (now (edges .entry)) r (now (nodes .exit))
+        (now (edges .exit)) ⌝ }
 {
     let t = task_of(q, nodes.len(), edges.len());
     let g = grow::grow(nodes, edges, weights, profits, t, root_of(q));
@@ -339,7 +348,10 @@ pub fn compile_counted(
     q: Request,
     path: &[u8],
 ) -> Ran
-    ensures { λ r. ⌜ CompileCounted (requestOf (now (weights .entry)) (now (profits .entry)) q (now (path .entry))) (roomsFor (now (nodes .entry)) (now (edges .entry)) places) (now (nodes .entry)) (now (edges .entry)) r (now (nodes .exit)) (now (edges .exit)) ⌝ }
+    ensures { λ r.
+        ⌜ CompileCounted (requestOf (now (weights .entry)) (now (profits .entry)) q (now (path .entry)))
+        (roomsFor (now (nodes .entry)) (now (edges .entry)) places) (now (nodes .entry)) (now (edges .entry)) r (now (nodes .exit))
+        (now (edges .exit)) ⌝ }
 {
     let verdict = refusals::compile_refusal(
         weights,

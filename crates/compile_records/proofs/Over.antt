@@ -1,5 +1,5 @@
 -- The list after some turns: so many of the drained records' places, then what was there.
-use mathlib.Core.Path.{_≡_, refl, sym, ap, subst, _∙_}
+use mathlib.Core.Path.{_≡_, sym, ap, subst, _∙_}
 use mathlib.Core.List.{List, _++_, map}
 use Prim.Native.Nat.{ℕ, suc, _+_, _%_, _<_}
 use native.Mathlib.Omega.{arith}
@@ -15,9 +15,6 @@ use Rattle.compile_records.specs.Windows.{windowRecords, Shows, begin, W
 -- the first n of ps, over what was there
 abbrev pub partly : ℕ → List Place → List Place → List Place
 partly n ps old = take n ps ++ drop n old
-
-pub partly-none : (ps old : List Place) → partly 0 ps old ≡ old
-partly-none ps old = refl
 
 pub partly-more : (n : ℕ) (ps old : List Place) → n < length ps → n < length old → set (partly n ps old) n (getD ps n noPlace) ≡ partly (n + 1) ps old
 partly-more n ps old h g =

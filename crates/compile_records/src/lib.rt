@@ -27,9 +27,9 @@ pub struct Query {
 }
 
 // A counted compile, and what it was asked.
-pub struct Source {
-    pub ran: Ran,
-    pub query: Query,
+struct Source {
+    ran: Ran,
+    query: Query,
 }
 
 // How many records a window has, and how many words.
@@ -38,8 +38,8 @@ const WINDOW_RECORDS: usize = 16;
 const WINDOW_WORDS: usize = 1088;
 
 // Some drained records, as words.
-pub struct Window {
-    pub words: [u64; WINDOW_WORDS],
+struct Window {
+    words: [u64; WINDOW_WORDS],
 }
 
 fn request_in(q: Query) -> Request
@@ -78,7 +78,9 @@ fn counted(
     places: usize,
     q: Query,
 ) -> Source
-    ensures { λ s. ⌜ Sourced (askedBy (now (weights .entry)) (now (profits .entry)) q) (roomsFor (now (nodes .entry)) (now (edges .entry)) places) q (now (nodes .entry)) (now (edges .entry)) s (now (nodes .exit)) (now (edges .exit)) ⌝ }
+    ensures { λ s.
+        ⌜ Sourced (askedBy (now (weights .entry)) (now (profits .entry)) q) (roomsFor (now (nodes .entry)) (now (edges .entry)) places) q
+        (now (nodes .entry)) (now (edges .entry)) s (now (nodes .exit)) (now (edges .exit)) ⌝ }
 {
     let request = request_in(q);
     let k = path_length(q);
@@ -88,7 +90,7 @@ fn counted(
     Source { ran: ran, query: q }
 }
 
-// How many records are drained.
+// How many records are drained: a field by a call, for a walk by hand, which never looks into a struct.
 fn drained_of(s: Source) -> usize
     ensures { λ n. ⌜ n ≡ s .ran .answer .drained ⌝ }
 {
@@ -116,7 +118,8 @@ fn empty() -> Window
 // The records from number `first` on, as many as a window holds.
 fn filled(nodes: &mut [u64], edges: &[u64], first: usize, s: Source) -> Window
     requires { ⌜ Fetchable (s .ran) (requestIn (s .query)) (pathIn (s .query)) (now nodes) (now edges) ⌝ }
-    ensures { λ w. ⌜ Filled (s .ran) (requestIn (s .query)) (pathIn (s .query)) (now (nodes .entry)) (now (edges .entry)) first (now (nodes .exit)) (w .words) ⌝ }
+    ensures { λ w.
+        ⌜ Filled (s .ran) (requestIn (s .query)) (pathIn (s .query)) (now (nodes .entry)) (now (edges .entry)) first (now (nodes .exit)) (w .words) ⌝ }
 {
     let ran = s.ran;
     let q = s.query;
@@ -132,7 +135,9 @@ fn filled(nodes: &mut [u64], edges: &[u64], first: usize, s: Source) -> Window
 // The window that record number `at` is in: the next one where a window begins there, else the one that is had.
 fn turned(nodes: &mut [u64], edges: &[u64], at: usize, w: Window, s: Source) -> Window
     requires { ⌜ Fetchable (s .ran) (requestIn (s .query)) (pathIn (s .query)) (now nodes) (now edges) ⌝ }
-    ensures { λ r. ⌜ Turned (s .ran) (requestIn (s .query)) (pathIn (s .query)) (now (nodes .entry)) (now (edges .entry)) at (w .words) (now (nodes .exit)) (r .words) ⌝ }
+    ensures { λ r.
+        ⌜ Turned (s .ran) (requestIn (s .query)) (pathIn (s .query)) (now (nodes .entry)) (now (edges .entry)) at (w .words) (now (nodes .exit))
+        (r .words) ⌝ }
 {
     if at % WINDOW_RECORDS == 0 {
         filled(nodes, edges, at, s)
@@ -153,7 +158,9 @@ fn record_in(w: Window, at: usize) -> Record
 // Stores the n drained records of a counted compile in the list's first places.
 fn store(nodes: &mut [u64], edges: &[u64], records: &mut [Record], n: usize, s: Source)
     requires { ⌜ Storable (s .ran) (requestIn (s .query)) (pathIn (s .query)) (now nodes) (now edges) n (length (now records)) ⌝ }
-    ensures { λ _. ⌜ Stored (s .ran) (requestIn (s .query)) (pathIn (s .query)) (now (nodes .entry)) (now (edges .entry)) n (places (now (records .entry))) (now (nodes .exit)) (places (now (records .exit))) ⌝ }
+    ensures { λ _.
+        ⌜ Stored (s .ran) (requestIn (s .query)) (pathIn (s .query)) (now (nodes .entry)) (now (edges .entry)) n (places (now (records .entry)))
+        (now (nodes .exit)) (places (now (records .exit))) ⌝ }
 {
     let mut w = empty();
     let mut j = 0;
@@ -173,7 +180,10 @@ pub fn compile_into(
     records: &mut [Record],
     q: Query,
 ) -> Answer
-    ensures { λ a. ⌜ Compiles (compile (askedBy (now (weights .entry)) (now (profits .entry)) q) (lentOf (now (nodes .entry)) (now (edges .entry)) (places (now (records .entry))))) a (now (nodes .exit)) (now (edges .exit)) (places (now (records .exit))) ⌝ }
+    ensures { λ a.
+        ⌜ Compiles
+        (compile (askedBy (now (weights .entry)) (now (profits .entry)) q) (lentOf (now (nodes .entry)) (now (edges .entry)) (places (now (records .entry)))))
+        a (now (nodes .exit)) (now (edges .exit)) (places (now (records .exit))) ⌝ }
 {
     let n = records.len();
     let s = counted(weights, profits, nodes, edges, n, q);

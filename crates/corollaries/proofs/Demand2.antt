@@ -16,8 +16,8 @@ use Rattle.demand2.proofs.Exact.{optimum-exists, exact-finds-optimum, exact-mod
 use Rattle.demand2.proofs.Achieved.{best-exact-achieved, restricted-value-achieved}
 use Rattle.demand2.proofs.Relaxed.{relaxed-bounds, relaxed-none}
 use Rattle.demand2.proofs.Drained.{drained-records, drained-cover}
-use Rattle.corollaries.specs.Called.{Called, asked, problem, given, IsAccepted}
-use Rattle.corollaries.specs.Statements.{OptimumExists, FindsOptimum, FindsNothing, ExactFindsOptimum, ExactModeIsExact, RestrictedAchieved, Bounds, RelaxedBounds, RelaxedNone, BestExactAchieved, IsDrained, Drains, RelaxedDrains}
+use Rattle.corollaries.specs.Called.{Called, asked, problem, given}
+use Rattle.corollaries.specs.Statements.{OptimumExists, FindsOptimum, FindsNothing, ExactFindsOptimum, ExactModeIsExact, RestrictedAchieved, RelaxedBounds, RelaxedNone, BestExactAchieved, RelaxedDrains}
 use Rattle.corollaries.proofs.Reading.{Read, read, shown, best-of, no-best, best-exact-of, best-as, best-exact-as}
 
 -- the paths of a call's answer are the compiled ones

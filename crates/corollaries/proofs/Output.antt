@@ -11,9 +11,9 @@ use Rattle.compile.specs.declared.Answer.{Answer}
 use Rattle.compile.specs.Answered.{answerFrom}
 use Rattle.demand2.specs.Records.{SameWords}
 use Rattle.demand2.proofs.Frames.{old-contents-change-nothing, beyond-the-run-stays}
-use Rattle.corollaries.specs.Called.{Called, asked, IsAccepted}
-use Rattle.corollaries.specs.Statements.{SameInput, SameOutput, OneAnswer, BeyondStays, BeyondTheRunStays}
-use Rattle.corollaries.proofs.Reading.{Read, read}
+use Rattle.corollaries.specs.Called.{asked}
+use Rattle.corollaries.specs.Statements.{OneAnswer, BeyondTheRunStays}
+use Rattle.corollaries.proofs.Reading.{read}
 
 same-words : (b a b′ a′ x y : List ℕ) → a ≡ x → a′ ≡ y → SameWords b x b′ y → SameWords b a b′ a′
 same-words b a b′ a′ x y e f s = record { words = s .words; one = e ∙ s .one; other = f ∙ s .other }

@@ -13,8 +13,8 @@ use Rattle.refusals.specs.declared.Verdict.the-variants.{Accepted, Refused}
 use Rattle.compile.specs.declared.Answer.{Answer}
 use Rattle.compile.specs.Asked.{requestOf}
 use Rattle.compile.specs.Answered.{answerFrom}
-use Rattle.corollaries.specs.Called.{Called, asked}
-use Rattle.corollaries.specs.Starred.{Case, cases, Asks, Gives, Starred}
+use Rattle.corollaries.specs.Called.{asked}
+use Rattle.corollaries.specs.Starred.{Case, cases, Starred}
 
 -- what is seen of a case: its verdict, its answer and its records' words
 record Seen : Type 0 where

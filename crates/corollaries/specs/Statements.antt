@@ -2,13 +2,13 @@
 use mathlib.Core.Path.{_≡_}
 use mathlib.Core.Bool.{Bool, true}
 use mathlib.Core.List.{List, _++_, List·Memᴰ, map}
-use Prim.Native.Nat.{ℕ, _<_, _≤_, _*_}
+use Prim.Native.Nat.{_<_, _≤_, _*_}
 use lib.IntN.{ℤ}
 use lib.ListN.{length, drop}
 use lib.Signed.{_≤ℤ_, _<ℤ_}
 use Rattle.layout.specs.Rows.{nodeWords, edgeWords}
 use Rattle.layout.specs.Records.{recordWords, recordTable}
-use Rattle.calls.specs.Asked.{Problem, Given, recordOf}
+use Rattle.calls.specs.Asked.{Given, recordOf}
 use Rattle.grow.specs.declared.Mode.the-variants.{Exact, Restricted, Relaxed}
 use Rattle.finalize.specs.declared.Value.the-variants.{Is, Missing}
 use Rattle.demand2.specs.Records.{itemCount, Completes, earns, RecordOptimum, Achieved, SameWords, Valid}

@@ -1,1 +1,1 @@
-// What a caller of `compile` may rely on, from its promise alone: see specs/Statements.antt.
+// No code: what follows from the promise of `compile`: one answer for two calls, demand 2, the drained records and the starred cases.

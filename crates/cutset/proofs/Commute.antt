@@ -61,7 +61,7 @@ raise-hidden : (b : ℕ) (n : Node) → unmarked (raise b n) ≡ unmarked n
 unfolding unmarked raise markedWith
 raise-hidden b n = refl
 
-pub same-marked : (n m : Node) → uncut n ≡ uncut m → n .marked ≡ m .marked
+same-marked : (n m : Node) → uncut n ≡ uncut m → n .marked ≡ m .marked
 unfolding withCutset
 same-marked n m e = ap (λ (x : Node). x .marked) e
 
@@ -82,7 +82,7 @@ both-node : (n m : Node) → uncut n ≡ uncut m → unmarked n ≡ unmarked m �
 unfolding withCutset
 both-node n m e u = ap (λ (x : Node). withCutset (n .cutset) x) e ∙ ap (λ (b : Bool). withCutset b m) (same-cutset n m u)
 
-pub both-rows : (ns ms : List Node) → uncuts ns ≡ uncuts ms → unmarkeds ns ≡ unmarkeds ms → ns ≡ ms
+both-rows : (ns ms : List Node) → uncuts ns ≡ uncuts ms → unmarkeds ns ≡ unmarkeds ms → ns ≡ ms
 both-rows [] [] e u = refl
 both-rows [] (m ∷ ms) e u = let z : _≡_ {A = ℕ} 0 1 = cc in absurd (omega arith)
 both-rows (n ∷ ns) [] e u = let z : _≡_ {A = ℕ} 0 1 = cc in absurd (omega arith)
@@ -102,7 +102,7 @@ pub record Same (a b : Cutset) : Type 0 where
   pub rows : unmarkeds (a .nodes) ≡ unmarkeds (b .nodes)
   pub listed : a .listed ≡ b .listed
 
-pub row-same : (r : ℕ) (a b : Cutset) → Same a b → Same (listRow r a) (listRow r b)
+row-same : (r : ℕ) (a b : Cutset) → Same a b → Same (listRow r a) (listRow r b)
 unfolding listRow
 row-same r a b e =
     record {
@@ -110,7 +110,7 @@ row-same r a b e =
       listed = ap (λ (l : List ℕ). l ++ (r ∷ [])) (e .listed);
     }
 
-pub rows-same : (rs : List ℕ) (a b : Cutset) → Same a b → Same (listRows rs a) (listRows rs b)
+rows-same : (rs : List ℕ) (a b : Cutset) → Same a b → Same (listRows rs a) (listRows rs b)
 unfolding listRows
 rows-same [] a b e = e
 rows-same (r ∷ rs) a b e = rows-same rs (listRow r a) (listRow r b) (row-same r a b e)
@@ -128,7 +128,7 @@ exact-at a b r e = same-exact (nodeAt (a .nodes) r) (nodeAt (b .nodes) r) (view-
 cutset-at : (a b : Cutset) (r : ℕ) → Same a b → nodeAt (a .nodes) r .cutset ≡ nodeAt (b .nodes) r .cutset
 cutset-at a b r e = same-cutset (nodeAt (a .nodes) r) (nodeAt (b .nodes) r) (view-at unmarked (a .nodes) (b .nodes) r (e .rows))
 
-pub edges-same : (es : List Edge) (l : List ℕ) (a b : Cutset) → Same a b → Same (frontierEdges es l a) (frontierEdges es l b)
+edges-same : (es : List Edge) (l : List ℕ) (a b : Cutset) → Same a b → Same (frontierEdges es l a) (frontierEdges es l b)
 unfolding frontierEdges
 edges-same es [] a b e = e
 edges-same es (i ∷ l) a b e =
@@ -136,28 +136,28 @@ edges-same es (i ∷ l) a b e =
     let t : (nodeAt (a .nodes) s .exact && not (nodeAt (a .nodes) s .cutset)) ≡ (nodeAt (b .nodes) s .exact && not (nodeAt (b .nodes) s .cutset)) = rw (exact-at a b s e, cutset-at a b s e) in
     edges-same es l _ _ (if-same _ _ (listRow s a) (listRow s b) a b t (row-same s a b e) e)
 
-pub frontier-same : (es : List Edge) (rs : List ℕ) (a b : Cutset) → Same a b → Same (frontierRows es rs a) (frontierRows es rs b)
+frontier-same : (es : List Edge) (rs : List ℕ) (a b : Cutset) → Same a b → Same (frontierRows es rs a) (frontierRows es rs b)
 unfolding frontierRows
 frontier-same es [] a b e = e
 frontier-same es (r ∷ rs) a b e =
     frontier-same es rs _ _ (if-same _ _ a b _ _ (exact-at a b r e) e (edges-same es (inbound es r) a b e))
 
-pub layers-same : (es : List Edge) (ls : List Range) (a b : Cutset) → Same a b → Same (frontierLayers es ls a) (frontierLayers es ls b)
+layers-same : (es : List Edge) (ls : List Range) (a b : Cutset) → Same a b → Same (frontierLayers es ls a) (frontierLayers es ls b)
 unfolding frontierLayers
 layers-same es [] a b e = e
 layers-same es (l ∷ ls) a b e = layers-same es ls _ _ (frontier-same es (rowsOf l) a b e)
 
-pub layer-same : (l : LastExact) (a b : Cutset) → Same a b → Same (layerCutset l a) (layerCutset l b)
+layer-same : (l : LastExact) (a b : Cutset) → Same a b → Same (layerCutset l a) (layerCutset l b)
 unfolding layerCutset
 layer-same unsquashed a b e = e
 layer-same (squashedAfter l) a b e = rows-same (rowsOf l) a b e
 
-pub of-same : (k : CutsetKind) (d : Diagram) (ns : List Node) → unmarkeds ns ≡ unmarkeds (d .nodes) → Same (cutsetOf k (withNodes d ns)) (cutsetOf k d)
+of-same : (k : CutsetKind) (d : Diagram) (ns : List Node) → unmarkeds ns ≡ unmarkeds (d .nodes) → Same (cutsetOf k (withNodes d ns)) (cutsetOf k d)
 unfolding cutsetOf noCutset withNodes
 of-same lastExactLayer d ns e = layer-same (d .last) _ _ (record { rows = e; listed = refl })
 of-same frontier d ns e = layers-same (d .edges) (d .layers) _ _ (record { rows = e; listed = refl })
 
-pub for-same : (m : Mode) (k : CutsetKind) (d : Diagram) (ns : List Node) → unmarkeds ns ≡ unmarkeds (d .nodes) → Same (cutsetFor m k (withNodes d ns)) (cutsetFor m k d)
+for-same : (m : Mode) (k : CutsetKind) (d : Diagram) (ns : List Node) → unmarkeds ns ≡ unmarkeds (d .nodes) → Same (cutsetFor m k (withNodes d ns)) (cutsetFor m k d)
 unfolding cutsetFor noCutset withNodes
 for-same exactly k d ns e = record { rows = e; listed = refl }
 for-same restricted k d ns e = record { rows = e; listed = refl }
@@ -169,7 +169,7 @@ pub row-flags : (r : ℕ) (c : Cutset) → uncuts (listRow r c .nodes) ≡ uncut
 unfolding listRow
 row-flags r c = view-kept uncut inCutset cut-hidden (c .nodes) r
 
-pub rows-flags : (rs : List ℕ) (c : Cutset) → uncuts (listRows rs c .nodes) ≡ uncuts (c .nodes)
+rows-flags : (rs : List ℕ) (c : Cutset) → uncuts (listRows rs c .nodes) ≡ uncuts (c .nodes)
 unfolding listRows
 rows-flags [] c = refl
 rows-flags (r ∷ rs) c = rows-flags rs (listRow r c) ∙ row-flags r c
@@ -178,19 +178,19 @@ if-flags : (x : Bool) (a b : Cutset) (ns : List Node) → uncuts (a .nodes) ≡ 
 if-flags true a b ns p q = p
 if-flags false a b ns p q = q
 
-pub edges-flags : (es : List Edge) (l : List ℕ) (c : Cutset) → uncuts (frontierEdges es l c .nodes) ≡ uncuts (c .nodes)
+edges-flags : (es : List Edge) (l : List ℕ) (c : Cutset) → uncuts (frontierEdges es l c .nodes) ≡ uncuts (c .nodes)
 unfolding frontierEdges
 edges-flags es [] c = refl
 edges-flags es (i ∷ l) c =
     let s = edgeAt es i .from in
     edges-flags es l _ ∙ if-flags (nodeAt (c .nodes) s .exact && not (nodeAt (c .nodes) s .cutset)) (listRow s c) c (c .nodes) (row-flags s c) refl
 
-pub frontier-flags : (es : List Edge) (rs : List ℕ) (c : Cutset) → uncuts (frontierRows es rs c .nodes) ≡ uncuts (c .nodes)
+frontier-flags : (es : List Edge) (rs : List ℕ) (c : Cutset) → uncuts (frontierRows es rs c .nodes) ≡ uncuts (c .nodes)
 unfolding frontierRows
 frontier-flags es [] c = refl
 frontier-flags es (r ∷ rs) c = frontier-flags es rs _ ∙ if-flags (nodeAt (c .nodes) r .exact) c (frontierEdges es (inbound es r) c) (c .nodes) refl (edges-flags es (inbound es r) c)
 
-pub layers-flags : (es : List Edge) (ls : List Range) (c : Cutset) → uncuts (frontierLayers es ls c .nodes) ≡ uncuts (c .nodes)
+layers-flags : (es : List Edge) (ls : List Range) (c : Cutset) → uncuts (frontierLayers es ls c .nodes) ≡ uncuts (c .nodes)
 unfolding frontierLayers
 layers-flags es [] c = refl
 layers-flags es (l ∷ ls) c = layers-flags es ls _ ∙ frontier-flags es (rowsOf l) c
@@ -299,7 +299,7 @@ if-bounds-same unsquashed d ns ms e = e
 if-bounds-same (squashedAfter l) d ns ms e =
     raised-layers-same (d .edges) (d .layers) _ _ (ground-layer-same (d .layers) ns ms e)
 
-pub bounds-same : (m : Mode) (d : Diagram) (ns ms : List Node) → uncuts ns ≡ uncuts ms → uncuts (localBounds m d ns) ≡ uncuts (localBounds m d ms)
+bounds-same : (m : Mode) (d : Diagram) (ns ms : List Node) → uncuts ns ≡ uncuts ms → uncuts (localBounds m d ns) ≡ uncuts (localBounds m d ms)
 unfolding localBounds
 bounds-same exactly d ns ms e = e
 bounds-same restricted d ns ms e = e

@@ -1,11 +1,11 @@
 -- A listed row handed on: records go by what is seen without cutset flags, and one row more adds its record behind the others.
-use mathlib.Core.Path.{_≡_, refl, sym, ap, subst, _∙_}
-use mathlib.Core.Bool.{Bool, true, false, cond}
-use mathlib.Core.List.{List, [], _∷_, _++_, map, append-nil}
+use mathlib.Core.Path.{_≡_, refl, sym, ap, _∙_}
+use mathlib.Core.Bool.{true, false, cond}
+use mathlib.Core.List.{List, [], _∷_, _++_, append-nil}
 use Prim.Native.Nat.{ℕ, zero, suc, _+_, _-_, _*_, _<_, _≤_}
 use native.Mathlib.Nat.{suc-mul}
 use native.Mathlib.Omega.{arith}
-use lib.ListN.{length, getD, take, drop, length-append, length-drop, length-map}
+use lib.ListN.{length, take, drop, length-append, length-drop, length-map}
 use lib.Seq.{take-all, take-append-le, drop-append-le}
 use Rattle.knapsack.proofs.Cases.{by-test}
 use Rattle.diagram.specs.Record.{Record, pathRoom, padded}
@@ -14,17 +14,16 @@ use Rattle.diagram.specs.Tables.{Diagram, withNodes}
 use Rattle.diagram.specs.After3.{decisionsUp, pathTo}
 use Rattle.diagram.specs.After4.{Cutset}
 use Rattle.diagram.specs.After6.{drainedBound, drainedRecord, drainRows}
-use Rattle.layout.specs.Table.{wordsOf, over}
+use Rattle.layout.specs.Table.{over}
 use Rattle.layout.specs.Rows.{nodeWords, edgeWords, encodeNode, encodeEdge, nodeTable, edgeTable}
 use Rattle.layout.specs.Records.{recordWords, recordTable, Roomy}
 use Rattle.layout.proofs.Records.{roomy-snoc}
 use Rattle.layout.proofs.Table.{length-words}
 use Rattle.rows.specs.Access.{NodeRead, RecordWritten}
-use Rattle.rows.proofs.Access.{node-width, edge-width}
-use Rattle.branch.specs.declared.Counts.{Counts}
-use Rattle.branch.specs.State.{countsOf, Held}
+use Rattle.layout.proofs.Rows.{node-width, edge-width}
+use Rattle.branch.specs.State.{countsOf}
 use Rattle.theorems.proofs.Links.{Wired, SameLinks, same-wired}
-use Rattle.finish.specs.Sits.{Sits, Row}
+use Rattle.finish.specs.Sits.{Sits}
 use Rattle.finish.specs.Paths.{PathFits, PathWritten}
 use Rattle.finish.specs.declared.Path.{Path}
 use Rattle.cutset.specs.declared.Wanted.{Wanted}
@@ -105,7 +104,7 @@ records-same pre d best ns (r ∷ rs) s =
 
 -- ---- one row more
 
-pub drain-append : (pre : List ℕ) (d : Diagram) (best : ℕ) (rs : List ℕ) (r : ℕ) → drainRows pre d best (rs ++ (r ∷ [])) ≡ drainRows pre d best rs ++ drainRows pre d best (r ∷ [])
+drain-append : (pre : List ℕ) (d : Diagram) (best : ℕ) (rs : List ℕ) (r : ℕ) → drainRows pre d best (rs ++ (r ∷ [])) ≡ drainRows pre d best rs ++ drainRows pre d best (r ∷ [])
 unfolding drainRows
 drain-append pre d best [] r = refl
 drain-append pre d best (q ∷ rs) r =
@@ -162,7 +161,7 @@ over-long ws old = (simp (length-append, length-drop) (omega arith), simp (lengt
 links-same : (n m : Node) → Alike n m → SameLinks m n
 links-same n m a = record { depth-is = a .depth; newest-is = a .newest; best-is = a .best }
 
-pub flags-wired : (d : Diagram) (ns : List Node) → d .start ≤ length (d .nodes) → uncuts ns ≡ uncuts (d .nodes) → Wired d → Wired (withNodes d ns)
+flags-wired : (d : Diagram) (ns : List Node) → d .start ≤ length (d .nodes) → uncuts ns ≡ uncuts (d .nodes) → Wired d → Wired (withNodes d ns)
 unfolding withNodes
 flags-wired d ns h s w =
     same-wired d (withNodes d ns) h refl (omega arith) (same-length ns (d .nodes) s) (λ r _. links-same (nodeAt ns r) (nodeAt (d .nodes) r) (alike-at ns (d .nodes) r s)) w
@@ -179,7 +178,7 @@ module _ (w : Wanted) (d : Diagram) (oldN oldE oldR : List ℕ) (c : Cutset) (co
   unfolding edgeTable
   edge-words = rw (t .edges-are) (omega (arith, length-words encodeEdge edgeWords edge-width (d .edges), over-long (edgeTable (d .edges)) oldE .0))
 
-  pub record-words : w .room * recordWords ≤ length rs
+  record-words : w .room * recordWords ≤ length rs
   record-words = rw (t .handed .records-are) (omega (arith, z .record-room, over-long (recordTable (windowOf w (drainedOf w d (c .listed)))) oldR .1))
 
   sits : Sits (countsOf (withNodes d (c .nodes))) ns es
@@ -199,7 +198,7 @@ module _ (w : Wanted) (d : Diagram) (oldN oldE oldR : List ℕ) (c : Cutset) (co
       }
 
   -- what a path asks
-  pub path-fits : (r : ℕ) → r < length (d .nodes) → PathFits ns es r (recordPath w)
+  path-fits : (r : ℕ) → r < length (d .nodes) → PathFits ns es r (recordPath w)
   unfolding sits withNodes
   path-fits r h =
       record {

@@ -1,29 +1,20 @@
 -- The walk along a row's inbound edges by their next numbers: each parent is listed or passed over, newest edge first.
 use mathlib.Core.Path.{_≡_, refl, sym, ap, subst, _∙_}
-use mathlib.Core.Bool.{Bool, true, false, not, cond, _&&_}
-use mathlib.Core.List.{List, [], _∷_, _++_}
+use mathlib.Core.Bool.{true, false}
+use mathlib.Core.List.{List, [], _∷_}
 use Prim.Native.Nat.{ℕ, zero, suc, _+_, _-_, _*_, _<_, _≤_}
 use native.Mathlib.Omega.{arith}
-use lib.Dec.{eqb}
 use lib.ListN.{length}
-use Rattle.knapsack.proofs.Cases.{by-test}
 use Rattle.diagram.specs.Node.{Node, Edge, nodeAt, edgeAt}
 use Rattle.diagram.specs.Tables.{Diagram, inbound}
-use Rattle.diagram.specs.After4.{Cutset, listRow, frontierEdges}
+use Rattle.diagram.specs.After4.{Cutset, frontierEdges}
 use Rattle.layout.specs.Rows.{edgeWords}
 use Rattle.rows.specs.Access.{NodeRead, EdgeRead}
-use Rattle.theorems.proofs.Links.{Wired, newestBelow, alongNext, next-walk}
+use Rattle.theorems.proofs.Links.{Wired, newest-low, alongNext, next-walk}
+use Rattle.theorems.proofs.Once.{Few, add-few}
 use Rattle.cutset.specs.declared.Wanted.{Wanted}
-use Rattle.cutset.specs.Trace.{Settled, Trace, Tracing, Traced, Few, FewInside, FewLink, adding, alongEdges, ofRow}
-use Rattle.cutset.proofs.Handing.{Alike, edge-words, row-is, row-alike}
-use Rattle.cutset.proofs.Listing.{few-add}
-
-newest-low : (p : ℕ) (es : List Edge) (r : ℕ) → newestBelow p es r ≤ p
-unfolding newestBelow
-newest-low zero es r = omega arith
-newest-low (suc p) es r =
-    let h = newest-low p es r in
-    by-test (λ b. cond b (suc p) (newestBelow p es r) ≤ suc p) (eqb (edgeAt es p .to) r) (λ _. omega arith) (λ _. omega arith)
+use Rattle.cutset.specs.Trace.{Settled, Trace, Tracing, Traced, FewInside, FewLink, adding, alongEdges, ofRow}
+use Rattle.cutset.proofs.Handing.{edge-words, row-is, row-alike}
 
 -- the edge whose number and one is e: it is there, its parent is a row, its next number is smaller
 pub record Link (d : Diagram) (e : ℕ) : Type 0 where
@@ -120,7 +111,7 @@ module _ (w : Wanted) (e count : ℕ) (ns es rs : List ℕ) (s : Standing w e co
       let n = edge-words w (s .diagram) (s .oldN) (s .oldE) (s .oldR) (s .here .cut) count ns es rs (s .settled) (s .here .trace) in
       omega (arith, at-link .edge-in)
 
-  pub edge-is : (x : Edge) → EdgeRead es (e - 1) x → x ≡ edgeAt (s .diagram .edges) (e - 1)
+  edge-is : (x : Edge) → EdgeRead es (e - 1) x → x ≡ edgeAt (s .diagram .edges) (e - 1)
   edge-is x read = read .is-row (s .diagram .edges) (s .oldE) (s .here .trace .edges-are) (at-link .edge-in)
 
   pub next-falls : (x : Edge) → EdgeRead es (e - 1) x → x .next < e
@@ -154,7 +145,7 @@ walk-on w e₀ count₀ ns₀ es rs₀ e count ns rs x count′ ns′ rs′ h re
             fuel = l .fuel - 1;
             enough = omega (arith, l .enough, k .falls);
             inside = omega (arith, l .inside, k .falls);
-            few = few-add (x .from) d (l .cut) (l .few);
+            few = add-few (x .from) (l .cut) (l .few);
             trace = t .does d oldN oldE oldR (l .cut) z (l .trace) (omega (arith, k .from-in), l .few);
             left = rw (nx, fr) (sym (step-one d (l .fuel) e (l .cut) h (omega (arith, l .enough))) ∙ l .left);
           };

@@ -1,16 +1,16 @@
 -- The frontier layer by layer, the newest stored layer first.
 use mathlib.Core.Path.{_≡_, refl, sym, ap, subst, _∙_}
-use mathlib.Core.List.{List, [], _∷_}
-use Prim.Native.Nat.{ℕ, zero, suc, _+_, _-_, _<_, _≤_}
+use mathlib.Core.List.{List}
+use Prim.Native.Nat.{ℕ, zero, suc, _-_, _<_, _≤_}
 use native.Mathlib.Omega.{arith}
 use lib.ListN.{length, getD}
-use Rattle.diagram.specs.Tables.{Range, Diagram, rowsFrom, rowsOf}
-use Rattle.diagram.specs.After4.{Cutset, frontierRows, frontierLayers}
+use Rattle.diagram.specs.Tables.{Diagram, rowsFrom, rowsOf}
+use Rattle.diagram.specs.After4.{Cutset, frontierLayers}
 use Rattle.layers.specs.declared.Layers.{Layers}
-use Rattle.layers.specs.Stored.{range, firstOnes, stored}
+use Rattle.layers.specs.Stored.{firstOnes, stored}
+use Rattle.theorems.proofs.Once.{Few, rows-few}
 use Rattle.cutset.specs.declared.Wanted.{Wanted}
-use Rattle.cutset.specs.Trace.{Settled, Trace, Tracing, Traced, Few, FewUpto, Ranged, FewRanges, ofRows, ofLayers}
-use Rattle.cutset.proofs.Listing.{few-rows}
+use Rattle.cutset.specs.Trace.{Settled, Trace, Tracing, Traced, FewUpto, Ranged, FewRanges, ofRows, ofLayers}
 
 -- the first i stored layers are left, and lead to the cutset aimed at
 pub record Rest (w : Wanted) (d : Diagram) (oldN oldE oldR from to : List ℕ) (i count : ℕ) (ns es rs : List ℕ) (goal : Cutset) : Type 0 where
@@ -74,7 +74,7 @@ one-down w l ns₀ es rs₀ i count ns rs count′ ns′ rs′ h g t =
           let u = getD (l .to) (i - 1) 0 in
           record {
             cut = ofRows f (u - f) d (r .cut);
-            few = few-rows d (rowsFrom f (u - f)) (r .cut) (r .few);
+            few = rows-few (d .edges) (rowsFrom f (u - f)) (r .cut) (r .few);
             ranged = k .1;
             trace = t .does d oldN oldE oldR (r .cut) z (r .trace) (k .0, r .few);
             left = sym (opened d (l .from) (l .to) i (r .cut) h) ∙ r .left;

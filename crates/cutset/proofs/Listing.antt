@@ -1,34 +1,30 @@
 -- Steps of a traversal one after the other, and that the count of listed rows stays below the number of rows.
-use mathlib.Core.Path.{_≡_, refl, sym, ap, subst, _∙_}
-use mathlib.Core.Bool.{Bool, true, false, not, cond, _&&_}
-use mathlib.Core.List.{List, [], _∷_, _++_, append-nil, append-assoc}
+use mathlib.Core.Path.{_≡_, refl, sym, ap, _∙_}
+use mathlib.Core.Bool.{Bool, true, false, not, _&&_}
+use mathlib.Core.List.{List, [], _∷_, _++_}
 use Prim.Native.Nat.{ℕ, zero, suc, _+_, _-_, _*_, _<_, _≤_}
-use native.Mathlib.Nat.{add-zero, add-suc, suc-add}
+use native.Mathlib.Nat.{add-zero}
 use native.Mathlib.Omega.{arith}
-use lib.ListN.{length, set, length-append}
-use borrow.Author.Tests.{not-true}
-use Rattle.knapsack.proofs.Cases.{by-test}
-use Rattle.diagram.specs.Record.{Record}
-use Rattle.diagram.specs.Node.{Node, Edge, noNode, nodeAt, edgeAt, update, inCutset}
-use Rattle.diagram.specs.Tables.{Range, Diagram, rowsFrom, rowsOf, inbound}
-use Rattle.diagram.specs.After4.{Cutset, listRow, listRows, frontierEdges, frontierRows, frontierLayers}
-use Rattle.diagram.specs.After6.{drainedRecord, drainRows}
+use lib.ListN.{length, set}
+use Rattle.diagram.specs.Node.{Node, nodeAt, inCutset}
+use Rattle.diagram.specs.Tables.{Diagram, rowsFrom}
+use Rattle.diagram.specs.After4.{Cutset, listRow, listRows, frontierRows}
 use Rattle.layout.specs.Table.{over}
 use Rattle.layout.specs.Rows.{nodeWords, nodeTable}
 use Rattle.rows.specs.Access.{NodeRead, NodeWritten}
-use Rattle.theorems.proofs.Bool.{and-both}
+use Rattle.theorems.proofs.Once.{flags-few, Few, drain-few}
 use Rattle.cutset.specs.declared.Wanted.{Wanted}
-use Rattle.cutset.specs.Views.{withCutset, uncut, uncuts}
-use Rattle.cutset.specs.Trace.{recordPath, drainedOf, Settled, Handed, Trace, Tracing, Traced, Inside, HandedOn, flags, Few, FewInside, FewUpto, Upto, listing, listings, adding, ofRow, ofRows}
+use Rattle.cutset.specs.Views.{withCutset}
+use Rattle.cutset.specs.Trace.{recordPath, Tracing, Traced, Inside, HandedOn, FewInside, listing, listings, adding, ofRow, ofRows}
 use Rattle.cutset.proofs.Commute.{row-flags}
-use Rattle.cutset.proofs.Handing.{Alike, rows-are, node-words, row-is, row-alike}
+use Rattle.cutset.proofs.Handing.{rows-are, node-words, row-is}
 
 -- ---- one step behind another
 
-pub traced-none : (P : Diagram → Cutset → Type 0) (w : Wanted) (count : ℕ) (ns es rs : List ℕ) → Traced P (λ d c. c) w count ns es rs count ns rs
+traced-none : (P : Diagram → Cutset → Type 0) (w : Wanted) (count : ℕ) (ns es rs : List ℕ) → Traced P (λ d c. c) w count ns es rs count ns rs
 traced-none P w count ns es rs = record { does = λ d oldN oldE oldR c z t p. t }
 
-pub traced-then : (P Q : Diagram → Cutset → Type 0) (f g h : Diagram → Cutset → Cutset) (w : Wanted) (k₀ : ℕ) (ns₀ es rs₀ : List ℕ) (k : ℕ) (ns rs : List ℕ) (k′ : ℕ) (ns′ rs′ : List ℕ) → ((d : Diagram) (c : Cutset) → P d c → Q d (f d c)) → ((d : Diagram) (c : Cutset) → h d c ≡ g d (f d c)) → Traced P f w k₀ ns₀ es rs₀ k ns rs → Traced Q g w k ns es rs k′ ns′ rs′ → Traced P h w k₀ ns₀ es rs₀ k′ ns′ rs′
+traced-then : (P Q : Diagram → Cutset → Type 0) (f g h : Diagram → Cutset → Cutset) (w : Wanted) (k₀ : ℕ) (ns₀ es rs₀ : List ℕ) (k : ℕ) (ns rs : List ℕ) (k′ : ℕ) (ns′ rs′ : List ℕ) → ((d : Diagram) (c : Cutset) → P d c → Q d (f d c)) → ((d : Diagram) (c : Cutset) → h d c ≡ g d (f d c)) → Traced P f w k₀ ns₀ es rs₀ k ns rs → Traced Q g w k ns es rs k′ ns′ rs′ → Traced P h w k₀ ns₀ es rs₀ k′ ns′ rs′
 traced-then P Q f g h w k₀ ns₀ es rs₀ k ns rs k′ ns′ rs′ q e a b =
     record { does = λ d oldN oldE oldR c z t p. rw (e d c) (b .does d oldN oldE oldR (f d c) z (a .does d oldN oldE oldR c z t p) (q d c p)) }
 
@@ -79,32 +75,6 @@ row-listed w r count ns es rs n x count′ ns′ rs′ read e h g =
 
 -- ---- the count of listed rows
 
-drain-few : (pre : List ℕ) (d : Diagram) (best : ℕ) (rs : List ℕ) → length (drainRows pre d best rs) ≤ length rs
-unfolding drainRows
-drain-few pre d best [] = omega arith
-drain-few pre d best (r ∷ rs) =
-    let h = drain-few pre d best rs in
-    by-test (λ b. length (cond b (drainedRecord pre d best r ∷ drainRows pre d best rs) (drainRows pre d best rs)) ≤ suc (length rs)) (nodeAt (d .nodes) r .marked)
-    (λ _. omega arith)
-    (λ _. omega arith)
-
-flags-few : (ns : List Node) → flags ns ≤ length ns
-unfolding flags
-flags-few [] = omega arith
-flags-few (n ∷ ns) =
-    let h = flags-few ns in
-    by-test (λ b. cond b (suc (flags ns)) (flags ns) ≤ suc (length ns)) (n .cutset) (λ _. omega arith) (λ _. omega arith)
-
--- a row that is exact is there; one flag more if it had none
-flags-more : (ns : List Node) (s : ℕ) → nodeAt ns s .exact ≡ true → nodeAt ns s .cutset ≡ false → flags (update inCutset ns s) ≡ suc (flags ns)
-unfolding flags inCutset
-flags-more [] s x u = let z : _≡_ {A = ℕ} 0 1 = cc in absurd (omega arith)
-flags-more (n ∷ ns) zero x u = rw u
-flags-more (n ∷ ns) (suc s) x u =
-    by-test (λ b. cond b (suc (flags (update inCutset ns s))) (flags (update inCutset ns s)) ≡ suc (cond b (suc (flags ns)) (flags ns))) (n .cutset)
-    (λ _. ap suc (flags-more ns s x u))
-    (λ _. flags-more ns s x u)
-
 pub count-asked : (P : Diagram → Cutset → Type 0) (w : Wanted) (count : ℕ) (ns es rs : List ℕ) → ((d : Diagram) (c : Cutset) → P d c → Few c) → Tracing P w count ns es rs → count * nodeWords ≤ length ns
 count-asked P w count ns es rs q x =
     let d = x .diagram in
@@ -119,14 +89,6 @@ count-asked P w count ns es rs q x =
 unlisted : (a b : Bool) → b ≡ true → (a && not b) ≡ false
 unlisted true b e = rw e
 unlisted false b e = refl
-
-pub few-add : (s : ℕ) (d : Diagram) (c : Cutset) → Few c → Few (adding s d c)
-unfolding listRow
-few-add s d c h =
-    by-test (λ b. Few (cond b (listRow s c) c)) (nodeAt (c .nodes) s .exact && not (nodeAt (c .nodes) s .cutset))
-    (λ t. let z = and-both (nodeAt (c .nodes) s .exact) (not (nodeAt (c .nodes) s .cutset)) t in
-    simp length-append (omega (arith, flags-more (c .nodes) s (z .0) (not-true (nodeAt (c .nodes) s .cutset) (z .1)))))
-    (λ t. h)
 
 pub inexact-passed : (w : Wanted) (r count : ℕ) (ns es rs : List ℕ) (n : Node) → NodeRead ns r n → n .exact ≡ false → Traced (FewInside r) (adding r) w count ns es rs count ns rs
 inexact-passed w r count ns es rs n read x =
@@ -205,26 +167,3 @@ listings-none lo d c = refl
 pub ofrows-none : (lo : ℕ) (d : Diagram) (c : Cutset) → ofRows lo 0 d c ≡ c
 unfolding frontierRows rowsFrom
 ofrows-none lo d c = refl
-
--- ---- rows are listed once
-
-pub few-edges : (d : Diagram) (l : List ℕ) (c : Cutset) → Few c → Few (frontierEdges (d .edges) l c)
-unfolding frontierEdges
-few-edges d [] c h = h
-few-edges d (e ∷ l) c h = few-edges d l (adding (edgeAt (d .edges) e .from) d c) (few-add (edgeAt (d .edges) e .from) d c h)
-
-pub few-row : (r : ℕ) (d : Diagram) (c : Cutset) → Few c → Few (ofRow r d c)
-few-row r d c h =
-    by-test (λ b. Few (cond b c (frontierEdges (d .edges) (inbound (d .edges) r) c))) (nodeAt (c .nodes) r .exact)
-    (λ _. h)
-    (λ _. few-edges d (inbound (d .edges) r) c h)
-
-pub few-rows : (d : Diagram) (rs : List ℕ) (c : Cutset) → Few c → Few (frontierRows (d .edges) rs c)
-unfolding frontierRows
-few-rows d [] c h = h
-few-rows d (r ∷ rs) c h = few-rows d rs (ofRow r d c) (few-row r d c h)
-
-pub few-layers : (d : Diagram) (ls : List Range) (c : Cutset) → Few c → Few (frontierLayers (d .edges) ls c)
-unfolding frontierLayers
-few-layers d [] c h = h
-few-layers d (l ∷ ls) c h = few-layers d ls (frontierRows (d .edges) (rowsOf l) c) (few-rows d (rowsOf l) c h)

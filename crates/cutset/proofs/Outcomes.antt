@@ -1,10 +1,9 @@
 -- What is drained after local bounds is what a finished run drains: its cutset is listed before them, and its records are read after them.
-use mathlib.Core.Path.{_≡_, refl, sym, ap, subst, _∙_}
+use mathlib.Core.Path.{_≡_, refl, sym, ap, _∙_}
 use mathlib.Core.List.{List, []}
 use Prim.Native.Nat.{ℕ}
-use Rattle.diagram.specs.Record.{Record}
 use Rattle.diagram.specs.Node.{Node, nodeAt}
-use Rattle.diagram.specs.Tables.{Diagram, Found, at, nowhere, withNodes}
+use Rattle.diagram.specs.Tables.{Diagram, at, nowhere, withNodes}
 use Rattle.diagram.specs.Run.{Mode, relaxing}
 use Rattle.diagram.specs.After1.{bestNode}
 use Rattle.diagram.specs.After4.{CutsetKind, cutsetOf, cutsetFor}

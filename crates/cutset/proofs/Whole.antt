@@ -1,8 +1,8 @@
 -- A whole cutset listed, and listed again to be drained.
 use mathlib.Core.Path.{_≡_, refl, sym, ap, subst, _∙_}
-use mathlib.Core.Bool.{Bool, true, false, cond}
-use mathlib.Core.List.{List, [], _∷_}
-use Prim.Native.Nat.{ℕ, zero, suc, _+_, _-_, _*_, _<_, _≤_}
+use mathlib.Core.Bool.{true, false}
+use mathlib.Core.List.{List, []}
+use Prim.Native.Nat.{ℕ, _-_, _*_, _<_, _≤_}
 use native.Mathlib.Omega.{arith}
 use lib.Dec.{leb}
 use lib.ListN.{length, take, drop}
@@ -10,12 +10,13 @@ use lib.Seq.{take-nil, take-all, drop-nil}
 use borrow.Author.Tests.{le-leb, lt-leb}
 use Rattle.diagram.specs.Record.{Record}
 use Rattle.diagram.specs.Node.{Node}
-use Rattle.diagram.specs.Tables.{Range, LastExact, unsquashed, squashedAfter, Diagram, rowsFrom, rowsOf}
+use Rattle.diagram.specs.Tables.{Range, LastExact, unsquashed, squashedAfter, Diagram, rowsOf}
 use Rattle.diagram.specs.After4.{CutsetKind, lastExactLayer, frontier, Cutset, layerCutset, frontierLayers, noCutset, cutsetOf}
 use Rattle.diagram.specs.After6.{drainRows}
-use Rattle.layout.specs.Table.{wordsOf, over}
+use Rattle.layout.specs.Table.{over}
 use Rattle.layout.specs.Rows.{nodeWords, nodeTable, edgeTable}
-use Rattle.layout.specs.Records.{recordWords, recordTable, Roomy}
+use Rattle.layout.specs.Records.{recordWords, recordTable}
+use Rattle.layout.proofs.Records.{over-none}
 use Rattle.finish.proofs.Rewriting.{nodes-within}
 use Rattle.layers.specs.declared.Layers.{Layers}
 use Rattle.layers.specs.Stored.{range, Sized, stored, lastOf}
@@ -23,12 +24,10 @@ use Rattle.cutset.specs.declared.Wanted.{Wanted}
 use Rattle.cutset.specs.declared.Kind.{Kind}
 use Rattle.layers.specs.declared.Last.{Last}
 use Rattle.layers.specs.declared.Last.the-variants.{Unsquashed, After}
-use Rattle.cutset.specs.declared.Drained.{Drained}
 use Rattle.cutset.specs.declared.Drained.the-variants.{Records, TooMany}
-use Rattle.cutset.specs.Views.{uncuts}
 use Rattle.cutset.specs.Clearing.{Cleared}
-use Rattle.cutset.specs.Trace.{recordPath, drainedOf, windowOf, Settled, Handed, Trace, Tracing, Traced, Few, Upto, FewRanges, listings, ofLayers}
-use Rattle.cutset.specs.Whole.{kindOf, LastIn, counting, Shaped, cutsetFrom, Bounded, Drainable, answer, fitting, Drains, DrainedOff, Flagged, Windowed, WindowDrained}
+use Rattle.cutset.specs.Trace.{recordPath, drainedOf, windowOf, Settled, Trace, Tracing, Traced, Upto, FewRanges, listings, ofLayers}
+use Rattle.cutset.specs.Whole.{kindOf, LastIn, counting, Shaped, cutsetFrom, Bounded, Drainable, DrainedOff, Flagged, Windowed, WindowDrained}
 use Rattle.cutset.proofs.Commute.{of-flags}
 use Rattle.cutset.proofs.Handing.{same-length}
 use Rattle.cutset.proofs.Listing.{tracing-as}
@@ -82,14 +81,10 @@ unfolding cutsetFrom cutsetOf
 from-none lastExactLayer d = refl
 from-none frontier d = refl
 
-over-none : (rs : List ℕ) → over (recordTable []) rs ≡ rs
-unfolding over recordTable wordsOf
-over-none rs = refl
-
 none-wanted : (w : Wanted) → windowOf w [] ≡ []
 none-wanted w = ap (take (w .room)) (drop-nil {A = Record} (w .first)) ∙ take-nil {A = Record} (w .room)
 
-pub fresh-trace : (w : Wanted) (d : Diagram) (oldN oldE oldR ns es rs : List ℕ) → ns ≡ over (nodeTable (d .nodes)) oldN → es ≡ over (edgeTable (d .edges)) oldE → rs ≡ oldR → Trace w d oldN oldE oldR (noCutset d) 0 ns es rs
+fresh-trace : (w : Wanted) (d : Diagram) (oldN oldE oldR ns es rs : List ℕ) → ns ≡ over (nodeTable (d .nodes)) oldN → es ≡ over (edgeTable (d .edges)) oldE → rs ≡ oldR → Trace w d oldN oldE oldR (noCutset d) 0 ns es rs
 unfolding noCutset drainRows
 fresh-trace w d oldN oldE oldR ns es rs a b e =
     record {
@@ -124,11 +119,6 @@ count-first w l s count ns es rs x =
     )
 
 -- ---- a cutset that is flagged, listed again
-
--- the tables that one part of the records was fetched from serve for another part too
-pub flagged-as : (w v : Wanted) (l : Layers) (s : Last) (k : Kind) (d : Diagram) (oldN oldE : List ℕ) (count : ℕ) (ns es rs rs′ : List ℕ) → recordPath v ≡ recordPath w → v .depth ≤ 64 → v .room * recordWords ≤ length rs′ → Flagged w l s k d oldN oldE count ns es rs → Flagged v l s k d oldN oldE count ns es rs′
-flagged-as w v l s k d oldN oldE count ns es rs rs′ e h room b =
-    record { nodes-are = b .nodes-are; edges-are = b .edges-are; count-is = b .count-is; clear = b .clear; settled = settled-as w v d rs rs′ e h room (b .settled); shaped = b .shaped }
 
 module _ (w : Wanted) (l : Layers) (s : Last) (k : Kind) (count : ℕ) (ns es rs : List ℕ) where
   module _ (d : Diagram) (oldN oldE : List ℕ) (b : Flagged w l s k d oldN oldE count ns es rs) where

@@ -1,11 +1,11 @@
 -- A cutset in the making, as the tables and the record list hold it, and what each step of the traversal asks and promises.
 use mathlib.Core.Path.{_≡_}
-use mathlib.Core.Bool.{Bool, true, false, not, cond, _&&_}
+use mathlib.Core.Bool.{cond}
 use mathlib.Core.List.{List, [], _∷_, _++_}
-use Prim.Native.Nat.{ℕ, suc, _+_, _*_, _<_, _≤_}
+use Prim.Native.Nat.{ℕ, _+_, _*_, _<_, _≤_}
 use lib.ListN.{length, take, drop}
 use Rattle.diagram.specs.Record.{Record, pathRoom}
-use Rattle.diagram.specs.Node.{Node, nodeAt, edgeAt}
+use Rattle.diagram.specs.Node.{nodeAt, edgeAt}
 use Rattle.diagram.specs.Tables.{Range, Diagram, rowsFrom, inbound}
 use Rattle.diagram.specs.After3.{pathTo}
 use Rattle.diagram.specs.After4.{Cutset, listRow, listRows, frontierEdges, frontierRows, frontierLayers}
@@ -14,6 +14,8 @@ use Rattle.layout.specs.Table.{over}
 use Rattle.layout.specs.Rows.{nodeTable, edgeTable}
 use Rattle.layout.specs.Records.{recordWords, recordTable, Roomy}
 use Rattle.theorems.proofs.Links.{Wired, alongNext}
+use Rattle.theorems.proofs.Cutset.{add}
+use Rattle.theorems.proofs.Once.{Few}
 use Rattle.cutset.specs.declared.Wanted.{Wanted}
 use Rattle.cutset.specs.Views.{uncuts}
 
@@ -77,15 +79,7 @@ pub record HandedOn (w : Wanted) (r count : ℕ) (ns es rs : List ℕ) (count′
 
 -- ---- the steps of a traversal, as changes of the cutset
 
--- how many rows are flagged
-unfoldable pub flags : List Node → ℕ
-flags [] = 0
-flags (n ∷ ns) = cond (n .cutset) (suc (flags ns)) (flags ns)
-
--- no row is listed twice: there are as many flags as rows listed, at least
-abbrev pub Few : Cutset → Type 0
-Few c = length (c .listed) ≤ flags (c .nodes)
-
+-- row r is there, and `Few`: no row is listed twice
 abbrev pub FewInside : ℕ → Diagram → Cutset → Type 0
 FewInside r d c = (r < length (d .nodes)) × Few c
 
@@ -118,7 +112,7 @@ listings lo n d c = listRows (rowsFrom lo n) c
 
 -- row r is listed if it is exact and not yet listed
 abbrev pub adding : ℕ → Diagram → Cutset → Cutset
-adding r d c = cond (nodeAt (c .nodes) r .exact && not (nodeAt (c .nodes) r .cutset)) (listRow r c) c
+adding r d c = add c r
 
 -- the parents over the edges from e on, by their next numbers
 abbrev pub alongEdges : ℕ → Diagram → Cutset → Cutset

@@ -1,12 +1,12 @@
 -- What listing a whole cutset and draining it promise.
 use mathlib.Core.Path.{_≡_}
-use mathlib.Core.Bool.{Bool, cond}
+use mathlib.Core.Bool.{cond}
 use mathlib.Core.List.{List, []}
 use Prim.Native.Nat.{ℕ, _≤_}
 use lib.Dec.{leb}
 use lib.ListN.{length}
 use Rattle.diagram.specs.Record.{Record}
-use Rattle.diagram.specs.Tables.{LastExact, unsquashed, squashedAfter, Diagram}
+use Rattle.diagram.specs.Tables.{Diagram}
 use Rattle.diagram.specs.After4.{CutsetKind, lastExactLayer, frontier, Cutset, layerCutset, frontierLayers, noCutset, cutsetOf}
 use Rattle.layout.specs.Table.{over}
 use Rattle.layout.specs.Rows.{nodeTable, edgeTable}
@@ -15,13 +15,14 @@ use Rattle.layers.specs.declared.Layers.{Layers}
 use Rattle.layers.specs.declared.Last.{Last}
 use Rattle.layers.specs.declared.Last.the-variants.{Unsquashed, After}
 use Rattle.layers.specs.Stored.{Sized, stored, lastOf}
+use Rattle.theorems.proofs.Once.{Few}
 use Rattle.cutset.specs.declared.Wanted.{Wanted}
 use Rattle.cutset.specs.declared.Kind.{Kind}
 use Rattle.cutset.specs.declared.Kind.the-variants.{LastExactLayer, Frontier}
 use Rattle.cutset.specs.declared.Drained.{Drained}
 use Rattle.cutset.specs.declared.Drained.the-variants.{Records, TooMany}
 use Rattle.cutset.specs.Views.{uncuts}
-use Rattle.cutset.specs.Trace.{drainedOf, windowOf, Settled, Few, Ranged}
+use Rattle.cutset.specs.Trace.{drainedOf, windowOf, Settled, Ranged}
 
 -- the same question without room: rows are flagged and counted, and no record is written
 abbrev pub counting : Wanted → Wanted

@@ -1,8 +1,7 @@
 // The cutset of clean.rs, flagged and counted, and the records that it drains into a lent list.
 ghost use mathlib.Core.Path.{_≡_};
-ghost use Prim.Native.Nat.{ℕ, suc, _+_, _-_, _*_, _<_, _≤_, min};
+ghost use Prim.Native.Nat.{_+_, _-_, _*_, _<_, _≤_};
 ghost use lib.ListN.{length};
-ghost use Rattle.words.specs.I64.{satAdd};
 ghost use Rattle.diagram.specs.After4.{lastExactLayer};
 ghost use Rattle.diagram.specs.After6.{drainedBound};
 ghost use Rattle.layout.specs.Rows.{nodeWords};
@@ -20,11 +19,6 @@ use rows::EdgeId;
 use rows::Link;
 use rows::Node;
 use rows::NodeId;
-
-// the word of 0, and the largest word
-const MID: u64 = 9223372036854775808;
-
-const TOP: u64 = 18446744073709551615;
 
 // What a traversal is asked: the first record that is written, how many the list has room for, the run's best value, and the path,
 // with its length, of the record that was compiled. A traversal without room flags and counts.
@@ -48,38 +42,13 @@ pub enum Drained {
     TooMany,
 }
 
-// The Rust's saturating_add, of i64 numbers as words.
-fn sat_add(a: u64, b: u64) -> u64
-    ensures { λ r. ⌜ r ≡ satAdd a b ⌝ }
-{
-    if a < MID {
-        return less(b, MID - a);
-    }
-    let up = a - MID;
-    if TOP - up < b { TOP } else { b + up }
-}
-
-// b - down, 0 at least
-fn less(b: u64, down: u64) -> u64
-    ensures { λ r. ⌜ r ≡ b - down ⌝ }
-{
-    if b < down { 0 } else { b - down }
-}
-
-fn least(a: u64, b: u64) -> u64
-    ensures { λ r. ⌜ r ≡ min a b ⌝ }
-{
-    if a < b { a } else { b }
-}
-
 // The bound of a drained node's record.
 fn drained_bound(n: Node, best: u64) -> u64
     ensures { λ r. ⌜ r ≡ drainedBound best (nodeOf n) ⌝ }
 {
-    least(
-        least(sat_add(n.value, n.fast), sat_add(n.value, n.bottom)),
-        best,
-    )
+    let by_fast = words::sat_add(n.value, n.fast);
+    let by_bottom = words::sat_add(n.value, n.bottom);
+    words::smaller(words::smaller(by_fast, by_bottom), best)
 }
 
 // Row r is handed on: if it is marked it is counted, and its record, number `count` of all, is written if it is one of the `room`
@@ -93,7 +62,8 @@ fn hand_on(
     n: Node,
     count: usize,
 ) -> usize
-    requires { ⌜ Tracing (Inside (r .0)) w count (now nodes) (now edges) (now records) × (NodeRead (now nodes) (r .0) (nodeOf n) × (count + 1 < 18446744073709551616)) ⌝ }
+    requires { ⌜ Tracing (Inside (r .0)) w count (now nodes) (now edges) (now records) ×
+        (NodeRead (now nodes) (r .0) (nodeOf n) × (count + 1 < 18446744073709551616)) ⌝ }
     ensures { λ k. ⌜ HandedOn w (r .0) count (now (nodes .entry)) (now (edges .entry)) (now (records .entry)) k (now (records .exit)) ⌝ }
 {
     if !n.marked {
@@ -153,8 +123,11 @@ fn list_row(
     n: Node,
     count: usize,
 ) -> usize
-    requires { ⌜ Tracing (Inside (r .0)) w count (now nodes) (now edges) (now records) × (NodeRead (now nodes) (r .0) (nodeOf n) × (count + 1 < 18446744073709551616)) ⌝ }
-    ensures { λ k. ⌜ Traced (Inside (r .0)) (listing (r .0)) w count (now (nodes .entry)) (now (edges .entry)) (now (records .entry)) k (now (nodes .exit)) (now (records .exit)) × (k ≤ count + 1) ⌝ }
+    requires { ⌜ Tracing (Inside (r .0)) w count (now nodes) (now edges) (now records) ×
+        (NodeRead (now nodes) (r .0) (nodeOf n) × (count + 1 < 18446744073709551616)) ⌝ }
+    ensures { λ k.
+        ⌜ Traced (Inside (r .0)) (listing (r .0)) w count (now (nodes .entry)) (now (edges .entry)) (now (records .entry)) k (now (nodes .exit))
+        (now (records .exit)) × (k ≤ count + 1) ⌝ }
 {
     let listed = hand_on(nodes, edges, records, w, r, n, count);
     rows::write_node(nodes, r, with_cutset(n, true));
@@ -171,7 +144,9 @@ fn list_rows(
     to: usize,
 ) -> usize
     requires { ⌜ Tracing (Upto to) w 0 (now nodes) (now edges) (now records) ⌝ }
-    ensures { λ k. ⌜ Traced (Upto to) (listings from (to - from)) w 0 (now (nodes .entry)) (now (edges .entry)) (now (records .entry)) k (now (nodes .exit)) (now (records .exit)) ⌝ }
+    ensures { λ k.
+        ⌜ Traced (Upto to) (listings from (to - from)) w 0 (now (nodes .entry)) (now (edges .entry)) (now (records .entry)) k (now (nodes .exit))
+        (now (records .exit)) ⌝ }
 {
     let mut count = 0;
     let mut r = from;
@@ -193,7 +168,9 @@ fn list_parent(
     count: usize,
 ) -> usize
     requires { ⌜ Tracing (FewInside (r .0)) w count (now nodes) (now edges) (now records) ⌝ }
-    ensures { λ k. ⌜ Traced (FewInside (r .0)) (adding (r .0)) w count (now (nodes .entry)) (now (edges .entry)) (now (records .entry)) k (now (nodes .exit)) (now (records .exit)) ⌝ }
+    ensures { λ k.
+        ⌜ Traced (FewInside (r .0)) (adding (r .0)) w count (now (nodes .entry)) (now (edges .entry)) (now (records .entry)) k (now (nodes .exit))
+        (now (records .exit)) ⌝ }
 {
     let n = rows::read_node(nodes, r);
     if !n.exact {
@@ -215,7 +192,9 @@ fn frontier_edges(
     count: usize,
 ) -> usize
     requires { ⌜ Tracing (FewLink (newest .0)) w count (now nodes) (now edges) (now records) ⌝ }
-    ensures { λ k. ⌜ Traced (FewLink (newest .0)) (alongEdges (newest .0)) w count (now (nodes .entry)) (now (edges .entry)) (now (records .entry)) k (now (nodes .exit)) (now (records .exit)) ⌝ }
+    ensures { λ k.
+        ⌜ Traced (FewLink (newest .0)) (alongEdges (newest .0)) w count (now (nodes .entry)) (now (edges .entry)) (now (records .entry)) k
+        (now (nodes .exit)) (now (records .exit)) ⌝ }
 {
     let mut listed = count;
     let mut e = newest.0;
@@ -238,7 +217,9 @@ fn frontier_row(
     count: usize,
 ) -> usize
     requires { ⌜ Tracing (FewInside (r .0)) w count (now nodes) (now edges) (now records) ⌝ }
-    ensures { λ k. ⌜ Traced (FewInside (r .0)) (ofRow (r .0)) w count (now (nodes .entry)) (now (edges .entry)) (now (records .entry)) k (now (nodes .exit)) (now (records .exit)) ⌝ }
+    ensures { λ k.
+        ⌜ Traced (FewInside (r .0)) (ofRow (r .0)) w count (now (nodes .entry)) (now (edges .entry)) (now (records .entry)) k (now (nodes .exit))
+        (now (records .exit)) ⌝ }
 {
     let n = rows::read_node(nodes, r);
     if n.exact {
@@ -259,7 +240,9 @@ fn frontier_layer(
     count: usize,
 ) -> usize
     requires { ⌜ Tracing (FewUpto to) w count (now nodes) (now edges) (now records) ⌝ }
-    ensures { λ k. ⌜ Traced (FewUpto to) (ofRows from (to - from)) w count (now (nodes .entry)) (now (edges .entry)) (now (records .entry)) k (now (nodes .exit)) (now (records .exit)) ⌝ }
+    ensures { λ k.
+        ⌜ Traced (FewUpto to) (ofRows from (to - from)) w count (now (nodes .entry)) (now (edges .entry)) (now (records .entry)) k (now (nodes .exit))
+        (now (records .exit)) ⌝ }
 {
     let mut listed = count;
     let mut r = from;
@@ -279,7 +262,9 @@ fn frontier_layers(
     layers: Layers,
 ) -> usize
     requires { ⌜ Tracing (FewRanges (stored layers)) w 0 (now nodes) (now edges) (now records) × (Sized layers × (layers .count ≤ 65)) ⌝ }
-    ensures { λ k. ⌜ Traced (FewRanges (stored layers)) (ofLayers (stored layers)) w 0 (now (nodes .entry)) (now (edges .entry)) (now (records .entry)) k (now (nodes .exit)) (now (records .exit)) ⌝ }
+    ensures { λ k.
+        ⌜ Traced (FewRanges (stored layers)) (ofLayers (stored layers)) w 0 (now (nodes .entry)) (now (edges .entry)) (now (records .entry)) k
+        (now (nodes .exit)) (now (records .exit)) ⌝ }
 {
     let mut listed = 0;
     let mut i = layers.count;
@@ -315,7 +300,9 @@ fn list_last(
     last: Last,
 ) -> usize
     requires { ⌜ Tracing (Shaped layers last) w 0 (now nodes) (now edges) (now records) ⌝ }
-    ensures { λ k. ⌜ Traced (Shaped layers last) (cutsetFrom lastExactLayer) w 0 (now (nodes .entry)) (now (edges .entry)) (now (records .entry)) k (now (nodes .exit)) (now (records .exit)) ⌝ }
+    ensures { λ k.
+        ⌜ Traced (Shaped layers last) (cutsetFrom lastExactLayer) w 0 (now (nodes .entry)) (now (edges .entry)) (now (records .entry)) k
+        (now (nodes .exit)) (now (records .exit)) ⌝ }
 {
     let Last::After(from, to) = last else {
         return 0;
@@ -334,7 +321,9 @@ fn traverse(
     last: Last,
 ) -> usize
     requires { ⌜ Tracing (Shaped layers last) w 0 (now nodes) (now edges) (now records) × (Sized layers × (layers .count ≤ 65)) ⌝ }
-    ensures { λ k. ⌜ Traced (Shaped layers last) (cutsetFrom (kindOf kind)) w 0 (now (nodes .entry)) (now (edges .entry)) (now (records .entry)) k (now (nodes .exit)) (now (records .exit)) ⌝ }
+    ensures { λ k.
+        ⌜ Traced (Shaped layers last) (cutsetFrom (kindOf kind)) w 0 (now (nodes .entry)) (now (edges .entry)) (now (records .entry)) k
+        (now (nodes .exit)) (now (records .exit)) ⌝ }
 {
     match kind {
         Kind::LastExactLayer => list_last(nodes, edges, records, w, layers, last),
@@ -353,7 +342,9 @@ pub fn flag_cutset(
     last: Last,
 ) -> usize
     requires { ⌜ Tracing (Shaped layers last) (counting w) 0 (now nodes) (now edges) (now records) × (Sized layers × (layers .count ≤ 65)) ⌝ }
-    ensures { λ k. ⌜ Traced (Shaped layers last) (cutsetFrom (kindOf kind)) (counting w) 0 (now (nodes .entry)) (now (edges .entry)) (now (records .entry)) k (now (nodes .exit)) (now (records .exit)) ⌝ }
+    ensures { λ k.
+        ⌜ Traced (Shaped layers last) (cutsetFrom (kindOf kind)) (counting w) 0 (now (nodes .entry)) (now (edges .entry)) (now (records .entry)) k
+        (now (nodes .exit)) (now (records .exit)) ⌝ }
 {
     let path = w.path;
     let without_room = Wanted {
@@ -380,7 +371,9 @@ pub fn drain_window(
     last: Last,
 ) -> usize
     requires { ⌜ Windowed w layers last kind count (now nodes) (now edges) (now records) ⌝ }
-    ensures { λ n. ⌜ WindowDrained w layers last kind count (now (nodes .entry)) (now (edges .entry)) (now (records .entry)) n (now (nodes .exit)) (now (records .exit)) ⌝ }
+    ensures { λ n.
+        ⌜ WindowDrained w layers last kind count (now (nodes .entry)) (now (edges .entry)) (now (records .entry)) n (now (nodes .exit))
+        (now (records .exit)) ⌝ }
 {
     clear_flags(nodes, count);
     traverse(nodes, edges, records, w, layers, kind, last)
@@ -399,7 +392,9 @@ pub fn drain(
     last: Last,
 ) -> Drained
     requires { ⌜ Drainable w layers last count (now nodes) (now edges) (now records) ⌝ }
-    ensures { λ r. ⌜ DrainedOff w layers last kind count (now (nodes .entry)) (now (edges .entry)) (now (records .entry)) r (now (nodes .exit)) (now (records .exit)) ⌝ }
+    ensures { λ r.
+        ⌜ DrainedOff w layers last kind count (now (nodes .entry)) (now (edges .entry)) (now (records .entry)) r (now (nodes .exit))
+        (now (records .exit)) ⌝ }
 {
     let found = flag_cutset(nodes, edges, records, w, layers, kind, last);
     if w.room < found {

@@ -8,7 +8,7 @@ use native.Mathlib.Omega.{arith}
 use lib.Dec.{T, leb→le, le→leb, ltb→lt}
 use lib.IntN.{ℤ, pos, negsuc, subℕ}
 use lib.Signed.{_≤ℤ_, _<ℤ_}
-use borrow.Author.Tests.{lt-ltb, le-ltb, leb-true, le-leb, ltb-true}
+use borrow.Author.Tests.{lt-ltb, le-ltb, leb-true, ltb-true}
 use Rattle.words.specs.I64.{mid, InI64, word, number}
 use Rattle.words.proofs.Laws.{magnitude-of-i64, i64-of-magnitude, word-natural, word-lt, word-le, number-word}
 
@@ -54,9 +54,6 @@ below-word a b ha hb h = ltb-true (word a) (word b) (sym (word-lt a b ha hb) ∙
 
 pub at-most-word : (a b : ℤ) → InI64 a → InI64 b → a ≤ℤ b → word a ≤ word b
 at-most-word a b ha hb h = leb-true (word a) (word b) (sym (word-le a b ha hb) ∙ test-true _ (h .le))
-
-pub word-at-most : (a b : ℤ) → InI64 a → InI64 b → word a ≤ word b → a ≤ℤ b
-word-at-most a b ha hb h = record { le = true-test _ (word-le a b ha hb ∙ le-leb (word a) (word b) h) }
 
 pub natural-at-most : (m n : ℕ) → pos m ≤ℤ pos n → m ≤ n
 natural-at-most m n h = leb→le m n (h .le)

@@ -26,11 +26,6 @@ unfolding valueOf
 value-at d nowhere v e = let z : _≡_ {A = ℕ} 0 1 = cc in absurd (omega arith)
 value-at d (at r) v e = record { row = r; is-row = refl; value-is = cc }
 
-pub value-none : (d : Diagram) (f : Found) → valueOf d f ≡ none → f ≡ nowhere
-unfolding valueOf
-value-none d nowhere e = refl
-value-none d (at r) e = let z : _≡_ {A = ℕ} 0 1 = cc in absurd (omega arith)
-
 pub value-of : (d : Diagram) (f : Found) (r : ℕ) → f ≡ at r → valueOf d f ≡ some (number (nodeAt (d .nodes) r .value))
 unfolding valueOf
 value-of d f r e = ap (valueOf d) e

@@ -22,9 +22,10 @@ use Rattle.calls.specs.Rows.{namings}
 use Rattle.theorems.proofs.Path.{sumTaken, timesNamed, named-is, names-none, Valid as ValidRecord}
 use Rattle.theorems.proofs.Steps.{worthOf}
 use Rattle.theorems.proofs.Whole.{takesItem, Whole}
+use Rattle.call_laws.proofs.Accepted.{same-namings}
 use Rattle.demand2.specs.Records.{itemsIn, itemCount, Allowed, Valid, Keeps, earns, RecordOptimum, decisions, Achieved}
 use Rattle.demand2.proofs.Numbers.{number-natural, at-most-natural, natural-at-most}
-use Rattle.demand2.proofs.Accepted.{count-is, same-namings, valid-record}
+use Rattle.demand2.proofs.Accepted.{count-is, valid-record}
 use Rattle.demand2.proofs.Sums.{total, weight-total, profit-total, total-split, path-sum}
 
 -- ---- the selection that a path says

@@ -8,10 +8,11 @@ use lib.Dec.{eqb, ltb}
 use lib.ListN.{length, getD, drop}
 use lib.Seq.{drop-cons}
 use borrow.Author.Tests.{eqb-true, eqb-false, eq-eqb, ne-eqb, ltb-true, ltb-false}
-use Rattle.knapsack.specs.Items.{Item, counted, itemOf}
+use Rattle.knapsack.specs.Items.{Item, noItem, counted, itemOf}
 use Rattle.knapsack.specs.Knapsack.{weightOf, profitOf}
 use Rattle.knapsack.proofs.Cases.{by-test}
-use Rattle.theorems.proofs.Path.{noItem, share, sumTaken, timesNamed, named-is}
+use Rattle.theorems.proofs.Path.{share, sumTaken, timesNamed, named-is}
+use Rattle.theorems.proofs.Whole.{hit, col, col-none}
 use Rattle.demand2.specs.Records.{Keeps}
 
 -- what the items that a selection takes add up to
@@ -90,38 +91,25 @@ total-split f items sel (suc n) h l =
 
 -- ---- over the bytes of a path: item by item
 
--- what the bytes that name item k add
-unfoldable column : (Item → ℕ) → List Item → ℕ → List ℕ → ℕ
-column f items k [] = 0
-column f items k (b ∷ p) = only (itemOf b) (share f items b) k + column f items k p
-
-columns : (f : Item → ℕ) (items : List Item) (n : ℕ) (p : List ℕ) → ((k : ℕ) → n ≤ k → timesNamed k p ≡ 0) → sumTaken f items p ≡ sumTo n (λ k. column f items k p)
-unfolding sumTaken column timesNamed
+columns : (f : Item → ℕ) (items : List Item) (n : ℕ) (p : List ℕ) → ((k : ℕ) → n ≤ k → timesNamed k p ≡ 0) → sumTaken f items p ≡ sumTo n (λ k. col f items k p)
+unfolding sumTaken col hit timesNamed
 columns f items n [] h = sym (sum-zero n)
 columns f items n (b ∷ p) h =
     let inside : itemOf b < n = by-test (λ _. itemOf b < n) (ltb (itemOf b) n) (λ t. ltb-true _ _ t) (λ t. absurd (omega (arith, h (itemOf b) (ltb-false (itemOf b) n t), named-is (itemOf b) b (itemOf b) refl .0 refl))) in
-    omega (arith, sum-add n (only (itemOf b) (share f items b)) (λ k. column f items k p), only-in n (itemOf b) (share f items b) inside, columns f items n p (λ k l. omega (arith, h k l)))
+    omega (arith, sum-add n (only (itemOf b) (share f items b)) (λ k. col f items k p), only-in n (itemOf b) (share f items b) inside, columns f items n p (λ k l. omega (arith, h k l)))
 
-column-none : (f : Item → ℕ) (items : List Item) (k : ℕ) (p : List ℕ) → timesNamed k p ≡ 0 → column f items k p ≡ 0
-unfolding column timesNamed
-column-none f items k [] h = refl
-column-none f items k (b ∷ p) h =
-    by-test (λ _. only (itemOf b) (share f items b) k + column f items k p ≡ 0) (eqb (itemOf b) k)
-    (λ t. absurd (omega (arith, named-is k b (itemOf b) refl .0 (sym (eqb-true (itemOf b) k t)))))
-    (λ t. rw t (omega (arith, column-none f items k p (omega arith))))
-
-column-once : (f : Item → ℕ) (items : List Item) (sel : List Bool) (k : ℕ) (p : List ℕ) → timesNamed k p ≡ 1 → Keeps p sel → column f items k p ≡ entry f items sel k
-unfolding column timesNamed share
+column-once : (f : Item → ℕ) (items : List Item) (sel : List Bool) (k : ℕ) (p : List ℕ) → timesNamed k p ≡ 1 → Keeps p sel → col f items k p ≡ entry f items sel k
+unfolding col hit timesNamed share
 column-once f items sel k [] h keeps = absurd (omega arith)
 column-once f items sel k (b ∷ p) h keeps =
-    by-test (λ _. only (itemOf b) (share f items b) k + column f items k p ≡ entry f items sel k) (eqb (itemOf b) k)
+    by-test (λ _. only (itemOf b) (share f items b) k + col f items k p ≡ entry f items sel k) (eqb (itemOf b) k)
     (λ t. let e = eqb-true (itemOf b) k t in
     let here : share f items b ≡ entry f items sel k = rw (← keeps b (List·Memᴰ·head refl), e) in
-    rw t (omega (arith, column-none f items k p (omega (arith, named-is k b (itemOf b) refl .0 (sym e))))))
+    rw t (omega (arith, col-none f items k p (omega (arith, named-is k b (itemOf b) refl .0 (sym e))))))
     (λ t. let e = eqb-false (itemOf b) k t in
     rw t (omega (arith, column-once f items sel k p (omega (arith, named-is k b (itemOf b) refl .1 (λ q. e (sym q)))) (λ c m. keeps c (List·Memᴰ·tail m)))))
 
 -- A path that names each of the first n items once and no other adds up to what a selection that keeps it adds up to on those items.
 pub path-sum : (f : Item → ℕ) (items : List Item) (sel : List Bool) (n : ℕ) (p : List ℕ) → ((k : ℕ) → k < n → timesNamed k p ≡ 1) → ((k : ℕ) → n ≤ k → timesNamed k p ≡ 0) → Keeps p sel → sumTaken f items p ≡ sumTo n (entry f items sel)
 path-sum f items sel n p once none keeps =
-    columns f items n p none ∙ sum-same n (λ k. column f items k p) (entry f items sel) (λ k l. column-once f items sel k p (once k l) keeps)
+    columns f items n p none ∙ sum-same n (λ k. col f items k p) (entry f items sel) (λ k l. column-once f items sel k p (once k l) keeps)

@@ -25,7 +25,7 @@ use Rattle.theorems.proofs.Arc.{outlook, Layered}
 use Rattle.theorems.proofs.Squash.{Settled, Way, untouched, merges, deletes}
 use Rattle.theorems.proofs.Growth.{Ready, Step, store-is, Ended, through, died, grown-keeps}
 use Rattle.theorems.proofs.Tower.{Built, step-built, Finished, last-finished, empty-finished, rootRow, root-built}
-use Rattle.theorems.proofs.Exactness.{AllExact, stored-fits, empty-fits}
+use Rattle.theorems.proofs.Exactness.{AllExact, exactly-is-full, stored-fits, empty-fits}
 use Rattle.theorems.proofs.Terminals.{terminal-in}
 
 -- ---- the last exact layer: named by a squash, and never forgotten
@@ -70,9 +70,6 @@ as-exact items lower k d e f l h z (deletes rest m i) y q = absurd (named-never 
 -- so the tower is built in a restricted run too, as long as nothing is squashed
 record BuiltIf (items : List Item) (lower : ℕ) (r₀ : Node) (k : ℕ) (d : Diagram) : Type 0 where
   built : d .last ≡ unsquashed → Built items lower r₀ k d
-
-exactly-is-full : exactly ≡ restricted → ⊥
-exactly-is-full e = let z : _≡_ {A = ℕ} 0 1 = cc in omega arith
 
 step-built-if : (items : List Item) (lower : ℕ) (r₀ : Node) (k : ℕ) (d f : Diagram) → Ready k d → Step items lower restricted k d f → BuiltIf items lower r₀ k d → BuiltIf items lower r₀ (suc k) f
 step-built-if items lower r₀ k d f g t w =

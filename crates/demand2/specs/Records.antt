@@ -7,18 +7,16 @@ use lib.IntN.{ℤ, pos}
 use lib.ListN.{length, getD, take, drop}
 use lib.Signed.{_≤ℤ_}
 use Rattle.words.specs.I64.{InI64, number}
-use Rattle.knapsack.specs.Items.{Item, itemOf, isTake}
+use Rattle.knapsack.specs.Items.{itemOf, isTake}
 use Rattle.knapsack.specs.Knapsack.{SelectionFits, profitOf}
 use Rattle.diagram.specs.Record.{Record}
 use Rattle.diagram.specs.After6.{Outcome, finished, drained}
-use Rattle.calls.specs.Asked.{Problem, Given, itemsOf}
+use Rattle.calls.specs.Asked.{Problem, Given}
+pub use Rattle.calls.specs.Asked.{itemsIn}
 use Rattle.calls.specs.Rows.{Row1, Row2, Row3, Row4, Row5, Row6, Row7, Row8, Row9, namings}
 use Rattle.calls.specs.Compile.{Request, Rooms, Compiled, compiledOf, runOf}
 
--- 'Item d, in given order', and how many there are
-abbrev pub itemsIn : Problem → List Item
-itemsIn p = itemsOf (p .weights) (p .profits)
-
+-- how many items there are
 abbrev pub itemCount : Problem → ℕ
 itemCount p = length (p .weights)
 
@@ -41,7 +39,7 @@ pub record Valid (p : Problem) (g : Given) : Type 0 where
 abbrev pub Keeps : List ℕ → List Bool → Type 0
 Keeps path selection = (byte : ℕ) → List·Memᴰ byte path → getD selection (itemOf byte) false ≡ isTake byte
 
--- 'a selection that fits the page and keeps the record's path'
+-- 'every selection that fits, keeps its record's path': such a selection
 pub record Completes (p : Problem) (g : Given) (selection : List Bool) : Type 0 where
   pub fits : SelectionFits (itemsIn p) (p .page) selection
   pub keeps : Keeps (g .path) selection

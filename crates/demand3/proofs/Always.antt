@@ -24,7 +24,7 @@ use Rattle.searches.specs.Compile.{Lent}
 use Rattle.searches.specs.Search.{Search, openIn}
 use Rattle.searches.specs.Start as Start
 use Rattle.searches.specs.Start.{startRefusal, begun, start, started}
-use Rattle.searches.specs.Pick.{After, refusing, counted, accepting}
+use Rattle.searches.specs.Pick.{After, refusing, onePickMore, accepting}
 use Rattle.searches.specs.Trace.{Blocks, problemAt, Attempt, askedBy, pickedBy, Trace, begins, goes-on}
 use Rattle.demand3.specs.Searches.{problemOf, Leads}
 use Rattle.demand3.specs.Statements.{AlwaysStands}
@@ -114,13 +114,13 @@ begun-holds b bound list i a =
 
 -- The open records after an accepted pick are those that are left.
 pub accepting-open : (s : Search) (left list : List Place) (l : Lent) → openIn (accepting s left list l .search) (accepting s left list l .held .list) ≡ left
-unfolding accepting counted openIn
+unfolding accepting onePickMore openIn
 accepting-open s left list l = over-starts left list
 
 accepting-holds : (b : Blocks) (bound : ℤ) (s : Search) (left list : List Place) (l : Lent) → Sound b bound s left → Holds b bound (accepting s left list l .search) (accepting s left list l .held .list)
-unfolding accepting counted
+unfolding accepting onePickMore
 accepting-holds b bound s left list l z =
-    record { listed = over-long left list; sound = sound-as b bound s (counted (length left) s) left _ refl refl refl (accepting-open s left list l) z }
+    record { listed = over-long left list; sound = sound-as b bound s (onePickMore (length left) s) left _ refl refl refl (accepting-open s left list l) z }
 
 module _ (b : Blocks) (bound : ℤ) (s : Search) (a : Attempt) (h : Holds b bound s (a .held .list)) where
   went-holds : (r : After) → Went (askedBy b a) s (a .held) r → Holds b bound (r .search) (r .held .list)
@@ -135,7 +135,7 @@ module _ (b : Blocks) (bound : ℤ) (s : Search) (a : Attempt) (h : Holds b boun
       let high = given-bound (placeIn ps (a .place)) in
       accepting-holds b bound s (others (askedBy b a) s (a .held .list)) (a .held .list) (a .held .lent)
       (sound-dropped b bound s ps (a .place) below (subst (λ (v : ℤ). v ≤ℤ s .best) (ap (λ (g : Given). g .bound) e ∙ high) low) (h .sound))
-  went-holds r (grown c p e) = accepting-holds b bound (betterBy c s) (leftBy (askedBy b a) s (a .held) c) (a .held .list) _ (sound-grown b bound s a c p e (h .sound))
+  went-holds r (grown c p e l) = accepting-holds b bound (betterBy c s) (leftBy (askedBy b a) s (a .held) c) (a .held .list) _ (sound-grown b bound s a c (p .passed) e (h .sound))
 
   pub pick-holds : Holds b bound (pickedBy b s a .search) (pickedBy b s a .held .list)
   pick-holds = went-holds (pickedBy b s a) (went (askedBy b a) s (a .held))

@@ -18,7 +18,7 @@ use Rattle.diagram.specs.Tables.{Diagram}
 use Rattle.diagram.specs.After6.{Outcome, drained, Answer as Ran, refused as stoppedAt, finished}
 use Rattle.calls.specs.Asked.{Problem, Given}
 use Rattle.calls.specs.Refusals.{compileRefusal}
-use Rattle.calls.specs.Compile.{Request, Rooms, Compiled, Answer, refused, compiled, compiledOf, runOf}
+use Rattle.calls.specs.Compile.{Request, Rooms, Compiled, refused, compiled, compiledOf, runOf}
 use Rattle.demand2.specs.Records.{Finished, givenOf, Valid}
 use Rattle.demand2.proofs.Accepted.{accepted-is}
 use Rattle.demand2.proofs.Drained.{drained-records}
@@ -54,6 +54,24 @@ went q m = whole-went q m (compileRefusal (q .problem) (q .given)) refl
 
 -- ---- an accepted one
 
+-- it finished with outcome o, answers that, and writes its drained records into the places
+pub record DoneWith (q : Request) (m : Rooms) (e : Effect) (c : Compiled) (o : Outcome) : Type 0 where
+  pub accepts : compileRefusal (q .problem) (q .given) ≡ none
+  pub runs : runOf q m ≡ finished o
+  pub answers : c ≡ compiledOf (q .given .path) o
+  pub records : e .records ≡ map placeOf (drained (q .given .path) o)
+  pub few : length (drained (q .given .path) o) ≤ m .records
+
+done-by : (q : Request) (m : Rooms) (c : Compiled) (e : Effect) → Went q m e → e .answer ≡ compiled c → (o : Outcome) × DoneWith q m e c o
+unfolding effect
+done-by q m c e (early n a) x = let z : _≡_ {A = ℕ} 0 1 = cc in absurd (omega arith)
+done-by q m c e (halted n d a b) x = let z : _≡_ {A = ℕ} 0 1 = cc in absurd (omega arith)
+done-by q m c e (overfull o a b h) x = let z : _≡_ {A = ℕ} 0 1 = cc in absurd (omega arith)
+done-by q m c e (done o a b h) x = (o, record { accepts = a; runs = b; answers = cc; records = refl; few = h })
+
+pub done-with : (q : Request) (m : Rooms) (c : Compiled) → compileEffect q m .answer ≡ compiled c → (o : Outcome) × DoneWith q m (compileEffect q m) c o
+done-with q m c e = done-by q m c (compileEffect q m) (went q m) e
+
 -- a drained record, written in a place and read again, is what demand 2 hands to the next call
 read-back : (r : Record) → length (r .path) ≡ r .depth → givenAt (placeOf r) ≡ givenOf r
 unfolding givenAt placeOf givenOf padded
@@ -72,10 +90,6 @@ pub record Answered (q : Request) (m : Rooms) (e : Effect) (c : Compiled) : Type
 pub path-long : (p : Problem) (g : Given) → Valid p g → length (g .path) ≡ g .depth
 path-long p g v = elim (ℕ-discrete (length (g .path)) (g .depth)) [ yes e ↦ e | no n ↦ absurd (v .passes7 (inr n)) ]
 
-effect-fields : (a : Answer) (d : Diagram) (rs : List Record) → (effect a d rs .answer ≡ a) × (effect a d rs .records ≡ map placeOf rs)
-unfolding effect
-effect-fields a d rs = (refl, refl)
-
 given-fields : (r : Record) → (givenOf r .path ≡ r .path) × (givenOf r .depth ≡ r .depth)
 unfolding givenOf
 given-fields r = (refl, refl)
@@ -93,21 +107,15 @@ module _ (q : Request) (m : Rooms) (c : Compiled) (relaxed : q .mode ≡ relaxin
       let g = given-fields r in
       sym (ap (length {A = ℕ}) (g .0)) ∙ path-long (q .problem) (givenOf r) (z .valid) ∙ g .1
 
-  by-way : (e : Effect) → Went q m e → e .answer ≡ compiled c → Answered q m e c
-  by-way e (early n a) x = let z : _≡_ {A = ℕ} 0 1 = cc in absurd (omega arith)
-  by-way e (halted n d a b) x = let y : refused n ≡ compiled c = sym (effect-fields _ d [] .0) ∙ x in let z : _≡_ {A = ℕ} 0 1 = cc in absurd (omega arith)
-  by-way e (overfull o a b h) x = let y : refused 13 ≡ compiled c = sym (effect-fields _ (o .diagram) [] .0) ∙ x in let z : _≡_ {A = ℕ} 0 1 = cc in absurd (omega arith)
-  by-way e (done o a b h) x =
-      let ds = drained (q .given .path) o in
-      let f = effect-fields (compiled (compiledOf (q .given .path) o)) (o .diagram) ds in
-      let y : compiled (compiledOf (q .given .path) o) ≡ compiled c = sym (f .0) ∙ x in
-      let same : c ≡ compiledOf (q .given .path) o = cc in
-      let back = all-read-back ds (drained-long o a b same) in
-      record {
-        finishes = finished-as o a b same _ (ap (map givenAt) (f .1) ∙ back);
-        few = omega (arith, ap (length {A = Place}) (f .1), length-map ds placeOf);
-      }
-
   -- An accepted relaxed compile is finished, with the places' records as its drained ones.
   pub answered : compileEffect q m .answer ≡ compiled c → Answered q m (compileEffect q m) c
-  answered e = by-way (compileEffect q m) (went q m) e
+  answered e =
+      let d = done-with q m c e in
+      let o = d .0 in
+      let w = d .1 in
+      let ds = drained (q .given .path) o in
+      let back = all-read-back ds (drained-long o (w .accepts) (w .runs) (w .answers)) in
+      record {
+        finishes = finished-as o (w .accepts) (w .runs) (w .answers) _ (ap (map givenAt) (w .records) ∙ back);
+        few = omega (arith, w .few, ap (length {A = Place}) (w .records), length-map ds placeOf);
+      }

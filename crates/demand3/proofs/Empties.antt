@@ -10,7 +10,7 @@ use Rattle.words.specs.I64.{InI64}
 use Rattle.searches.specs.Places.{Place}
 use Rattle.searches.specs.Search.{Search, mostPicks}
 use Rattle.searches.specs.Start.{begun}
-use Rattle.searches.specs.Pick.{Asked, Held, After, refusing, counted, accepting, pick}
+use Rattle.searches.specs.Pick.{Asked, Held, After, refusing, onePickMore, accepting, pick}
 use Rattle.searches.specs.Trace.{Blocks, problemAt, askedBy, pickedBy, Trace, begins, goes-on}
 use Rattle.demand3.specs.Searches.{itemCount, geometric}
 use Rattle.demand3.specs.Statements.{RoomIsEnough, Strategy, Moment, afterPicks, Keeps, PickingEnds, PickingEmpties, countOf}
@@ -21,12 +21,12 @@ use Rattle.demand3.proofs.Few.{picks-are-few}
 -- ---- accepted picks are counted
 
 went-counted : (q : Asked) (s : Search) (h : Held) (r : After) → Went q s h r → r .search .picks ≡ countOf (r .answer) + s .picks
-unfolding refusing accepting counted countOf
+unfolding refusing accepting onePickMore countOf
 went-counted q s h r (early n e) = omega arith
 went-counted q s h r (halted n p e) = omega arith
 went-counted q s h r (outgrown c p e o) = omega arith
 went-counted q s h r (dropped p low) = omega arith
-went-counted q s h r (grown c p e) = omega (arith, bettered-picks (bettered (c .bestExact) (c .exactPath) s))
+went-counted q s h r (grown c p e l) = omega (arith, bettered-picks (bettered (c .bestExact) (c .exactPath) s))
 
 -- The search counts the picks that are accepted, and no other.
 pub pick-counted : (q : Asked) (s : Search) (h : Held) → pick q s h .search .picks ≡ countOf (pick q s h .answer) + s .picks
@@ -34,12 +34,12 @@ pick-counted q s h = went-counted q s h (pick q s h) (went q s h)
 
 -- and the count stays a u64
 went-u64 : (q : Asked) (s : Search) (h : Held) → s .picks ≤ mostPicks → (r : After) → Went q s h r → r .search .picks ≤ mostPicks
-unfolding refusing accepting counted
+unfolding refusing accepting onePickMore
 went-u64 q s h l r (early n e) = l
 went-u64 q s h l r (halted n p e) = l
 went-u64 q s h l r (outgrown c p e o) = l
 went-u64 q s h l r (dropped p low) = omega (arith, p .countable)
-went-u64 q s h l r (grown c p e) = let k = p .countable in omega (arith, bettered-picks (bettered (c .bestExact) (c .exactPath) s))
+went-u64 q s h l r (grown c p e m) = let k = p .passed .countable in omega (arith, bettered-picks (bettered (c .bestExact) (c .exactPath) s))
 
 pub pick-u64 : (q : Asked) (s : Search) (h : Held) → s .picks ≤ mostPicks → pick q s h .search .picks ≤ mostPicks
 pick-u64 q s h l = went-u64 q s h l (pick q s h) (went q s h)

@@ -14,7 +14,7 @@ use Rattle.searches.specs.Places.{Place, noPlace, givenAt, rootPlace, overPlace
 use Rattle.searches.specs.Compile.{Lent, roomsOf}
 use Rattle.searches.specs.Search.{Search, openIn, without}
 use Rattle.searches.specs.Start.{begun, start}
-use Rattle.searches.specs.Pick.{After, pickedFrom, requestFor, refusing, counted, accepting, appended}
+use Rattle.searches.specs.Pick.{After, pickedFrom, requestFor, refusing, onePickMore, accepting, appended}
 use Rattle.searches.specs.Trace.{Blocks, problemAt, Attempt, askedBy, pickedBy, Trace, begins, goes-on}
 use Rattle.demand3.specs.Searches.{itemCount, geometric}
 use Rattle.demand3.specs.Statements.{PicksAreFew}
@@ -99,7 +99,7 @@ begun-paid c n page bound list =
     omega (arith, ap (worth c n) (begun-open bound (rootPlace page) list), ap (geometric c) whole)
 
 accepting-paid : (c n : ℕ) (s : Search) (left list : List Place) (l : Lent) → suc (s .picks) + worth c n left ≤ geometric c n → Paid c n (accepting s left list l .search) (accepting s left list l .held .list)
-unfolding accepting counted
+unfolding accepting onePickMore
 accepting-paid c n s left list l h = omega (arith, ap (worth c n) (accepting-open s left list l))
 
 module _ (b : Blocks) (bound : ℤ) (most : ℕ) (s : Search) (a : Attempt) (h : Holds b bound s (a .held .list)) (few : length (a .held .lent .records) ≤ most) (paid : Paid most (itemCount b) s (a .held .list)) where
@@ -132,10 +132,10 @@ module _ (b : Blocks) (bound : ℤ) (most : ℕ) (s : Search) (a : Attempt) (h :
   went-paid r (outgrown c p e o) = paid
   went-paid r (dropped p low) =
       accepting-paid most n s (others (askedBy b a) s (a .held .list)) (a .held .list) _ (omega (arith, paid, split p, geometric-some most (n - placeIn ps (a .place) .depth)))
-  went-paid r (grown c p e) =
+  went-paid r (grown c p e l) =
       let records = effectFor (askedBy b a) s (a .held) .records in
       accepting-paid most n (betterBy c s) (leftBy (askedBy b a) s (a .held) c) (a .held .list) _
-      (omega (arith, paid, split p, appended-less c p e, bettered-picks (bettered (c .bestExact) (c .exactPath) s), worth-append most n (others (askedBy b a) s (a .held .list)) (appended (c .exact) (betterBy c s .best) records)))
+      (omega (arith, paid, split (p .passed), appended-less c (p .passed) e, bettered-picks (bettered (c .bestExact) (c .exactPath) s), worth-append most n (others (askedBy b a) s (a .held .list)) (appended (c .exact) (betterBy c s .best) records)))
 
   pub pick-paid : Paid most n (pickedBy b s a .search) (pickedBy b s a .held .list)
   pick-paid = went-paid (pickedBy b s a) (went (askedBy b a) s (a .held))

@@ -1,4 +1,4 @@
--- The proofs of demand 3's statements, in reading order. Each file says on its first line what it is for.
+-- The proofs of the statements about searches, in reading order. Each file says on its first line what it is for.
 -- ---- what is needed of numbers and lists, and what no width changes
 pub mod Order
 pub mod Lists
@@ -6,6 +6,8 @@ pub mod Widths
 -- ---- what a compile and a pick do
 pub mod Compiled
 pub mod Picks
+-- ---- each number exactly when the table says
+pub mod Table
 -- ---- the invariant, and the optimum
 pub mod Sound
 pub mod Grown

@@ -1,35 +1,32 @@
 -- What a pick does, one of five ways, and what then is in the search: refused early, refused by the compile, refused for want of room, a record dropped, a record compiled.
 use mathlib.Core.Path.{_≡_, refl, subst}
-use mathlib.Core.Bool.{Bool, true, false, not, _||_}
-use mathlib.Core.List.{List, _∷_, _++_}
-use mathlib.Core.Logic.{_⊎_, _≢_, inl, inr, ⊎-elim}
+use mathlib.Core.Bool.{Bool, true, false}
+use mathlib.Core.List.{List}
+use mathlib.Core.Logic.{_≢_, inl, inr, ⊎-elim}
 use mathlib.Core.Option.{Option, none, some}
 use Prim.Native.Nat.{ℕ, _≤_, _<_}
 use native.Mathlib.Decide.{decLt}
 use native.Mathlib.Omega.{arith}
-use lib.Dec.{leb, ltb, eqb}
+use lib.Dec.{leb}
 use lib.IntN.{ℤ}
 use lib.ListN.{length}
 use lib.Signed.{_≤ℤ_, _<ℤ_, ltZ, ≤ℤ-refl}
-use borrow.Author.Tests.{leb-false}
+use borrow.Author.Tests.{leb-true, leb-false}
 use Rattle.knapsack.proofs.Cases.{by-test}
 use Rattle.calls.specs.Compile as Call
 use Rattle.calls.specs.Compile.{Compiled, refused, compiled}
-use Rattle.calls.specs.Table.{Row, row, problemRows, recordRows, Clear, end, past}
-use Rattle.calls.specs.Refusals.{problemChecks, recordChecks}
-use Rattle.calls.proofs.Tests.{by-less, by-equal, by-not, by-or}
-use Rattle.calls.proofs.Refusals.{Checked, next, checked-append, none-clear, clear-none, problem-checked, record-checked}
+use Rattle.calls.specs.Table.{Clear, end, past}
+use Rattle.calls.proofs.Refusals.{none-clear, clear-none}
 use Rattle.demand2.specs.Records.{Allowed, Valid}
 use Rattle.searches.specs.Places.{Place}
 use Rattle.searches.specs.Compile.{Effect, roomsOf, compileEffect}
 use Rattle.searches.specs.Search.{Search, mostPicks, openIn, without}
-use Rattle.searches.specs.Pick.{Asked, Held, After, pickCheck, pickedFrom, pickRefusal, requestFor, refusing, better, accepting, ifRoom, appended, lentAfter, afterCompile, ifAbove, unless, pick}
+use Rattle.searches.specs.Pick.{Asked, Held, After, pickedFrom, pickRefusal, refusing, better, accepting, ifRoom, lentAfter, afterCompile, ifAbove, unless, pick}
+use Rattle.searches.specs.Rows.{Row14, checkRows, requestOf, Runs, openAfter}
+use Rattle.searches.proofs.Refusals.{pick-checked}
 use Rattle.demand3.proofs.Order.{below-if, at-most-if, at-most-of-below}
 
 -- ---- 1 to 9 and 14
-
-abbrev pub Row14 : Search → ℕ → ℕ → Type 0
-Row14 s place places = ((place < s .opened) → ⊥) ⊎ ((places < s .opened) ⊎ (s .picks ≡ mostPicks))
 
 -- none of them applies
 pub record Passed (q : Asked) (s : Search) (list : List Place) : Type 0 where
@@ -39,19 +36,7 @@ pub record Passed (q : Asked) (s : Search) (list : List Place) : Type 0 where
   pub countable : s .picks ≢ mostPicks
   pub valid : Valid (q .problem) (pickedFrom list (q .place))
 
-abbrev pickRows : Asked → Search → List Place → List Row
-pickRows q s list = problemRows (q .problem) ++ (row 14 (Row14 s (q .place) (length list)) ∷ recordRows (q .problem) (pickedFrom list (q .place)))
-
-pick-checked : (q : Asked) (s : Search) (list : List Place) → Checked (problemChecks (q .problem) ++ (pickCheck s (q .place) (length list) ∷ recordChecks (q .problem) (pickedFrom list (q .place)))) (pickRows q s list)
-unfolding pickCheck
-pick-checked q s list =
-    checked-append (problem-checked (q .problem))
-    (next
-    (by-or (not (ltb (q .place) (s .opened))) (ltb (length list) (s .opened) || eqb (s .picks) mostPicks) (by-not (ltb (q .place) (s .opened)) (by-less (q .place) (s .opened)))
-    (by-or (ltb (length list) (s .opened)) (eqb (s .picks) mostPicks) (by-less (length list) (s .opened)) (by-equal (s .picks) mostPicks)))
-    (record-checked (q .problem) (pickedFrom list (q .place))))
-
-rows-passed : (q : Asked) (s : Search) (list : List Place) → Clear (pickRows q s list) → Passed q s list
+rows-passed : (q : Asked) (s : Search) (list : List Place) → Clear (checkRows q s list) → Passed q s list
 rows-passed q s list (past a1 (past a2 (past a3 (past a4 (past a5 (past a6 (past a14 (past a7 (past a8 (past a9 end)))))))))) =
     record {
       allowed = record { passes1 = a1; passes2 = a2; passes3 = a3; passes4 = a4; passes5 = a5; passes6 = a6 };
@@ -65,14 +50,16 @@ pub passes : (q : Asked) (s : Search) (list : List Place) → pickRefusal q s li
 unfolding pickRefusal
 passes q s list e = rows-passed q s list (none-clear (pick-checked q s list) e)
 
-pub passed : (q : Asked) (s : Search) (list : List Place) → Passed q s list → pickRefusal q s list ≡ none
-unfolding pickRefusal
-passed q s list p =
+pub passed-rows : (q : Asked) (s : Search) (list : List Place) → Passed q s list → Clear (checkRows q s list)
+passed-rows q s list p =
     let a = p .allowed in
     let v = p .valid in
     let fourteen : ¬ Row14 s (q .place) (length list) = ⊎-elim (λ h. h (p .is-open)) (⊎-elim (λ h. omega (arith, p .listed)) (λ h. p .countable h)) in
-    clear-none (pick-checked q s list)
-    (past (a .passes1) (past (a .passes2) (past (a .passes3) (past (a .passes4) (past (a .passes5) (past (a .passes6) (past fourteen (past (v .passes7) (past (v .passes8) (past (v .passes9) end))))))))))
+    past (a .passes1) (past (a .passes2) (past (a .passes3) (past (a .passes4) (past (a .passes5) (past (a .passes6) (past fourteen (past (v .passes7) (past (v .passes8) (past (v .passes9) end)))))))))
+
+pub passed : (q : Asked) (s : Search) (list : List Place) → Passed q s list → pickRefusal q s list ≡ none
+unfolding pickRefusal
+passed q s list p = clear-none (pick-checked q s list) (passed-rows q s list p)
 
 -- ---- best and path
 
@@ -110,28 +97,33 @@ others q s list = without (q .place) (openIn s list)
 
 -- the compile of the picked record
 abbrev pub effectFor : Asked → Search → Held → Effect
-effectFor q s h = compileEffect (requestFor q s (pickedFrom (h .list) (q .place))) (roomsOf (h .lent))
+effectFor q s h = compileEffect (requestOf q s h) (roomsOf (h .lent))
 
 -- the search with its best value after it, and the open records then
 abbrev pub betterBy : Compiled → Search → Search
 betterBy c s = better (c .bestExact) (c .exactPath) s
 
 abbrev pub leftBy : Asked → Search → Held → Compiled → List Place
-leftBy q s h c = others q s (h .list) ++ appended (c .exact) (betterBy c s .best) (effectFor q s h .records)
+leftBy q s h c = openAfter q s (h .list) c (effectFor q s h .records)
+
+-- a pick that passes, and whose record is compiled
+pub record Compiles (q : Asked) (s : Search) (h : Held) : Type 0 where
+  pub passed : Passed q s (h .list)
+  pub runs : Runs q s h
 
 pub data Went (q : Asked) (s : Search) (h : Held) : After → Type 0 where
   early : (n : ℕ) → pickRefusal q s (h .list) ≡ some n → Went q s h (refusing n s (h .list) (h .lent))
-  halted : (n : ℕ) → Passed q s (h .list) → effectFor q s h .answer ≡ refused n → Went q s h (refusing n s (h .list) (lentAfter (effectFor q s h) (h .lent)))
-  outgrown : (c : Compiled) → Passed q s (h .list) → effectFor q s h .answer ≡ compiled c → length (h .list) < length (leftBy q s h c) → Went q s h (refusing 13 s (h .list) (lentAfter (effectFor q s h) (h .lent)))
+  halted : (n : ℕ) → Compiles q s h → effectFor q s h .answer ≡ refused n → Went q s h (refusing n s (h .list) (lentAfter (effectFor q s h) (h .lent)))
+  outgrown : (c : Compiled) → Compiles q s h → effectFor q s h .answer ≡ compiled c → length (h .list) < length (leftBy q s h c) → Went q s h (refusing 13 s (h .list) (lentAfter (effectFor q s h) (h .lent)))
   dropped : Passed q s (h .list) → pickedFrom (h .list) (q .place) .bound ≤ℤ s .best → Went q s h (accepting s (others q s (h .list)) (h .list) (h .lent))
-  grown : (c : Compiled) → Passed q s (h .list) → effectFor q s h .answer ≡ compiled c → Went q s h (accepting (betterBy c s) (leftBy q s h c) (h .list) (lentAfter (effectFor q s h) (h .lent)))
+  grown : (c : Compiled) → Compiles q s h → effectFor q s h .answer ≡ compiled c → length (leftBy q s h c) ≤ length (h .list) → Went q s h (accepting (betterBy c s) (leftBy q s h c) (h .list) (lentAfter (effectFor q s h) (h .lent)))
 
-room-went : (q : Asked) (s : Search) (h : Held) (c : Compiled) → Passed q s (h .list) → effectFor q s h .answer ≡ compiled c → (b : Bool) → leb (length (leftBy q s h c)) (length (h .list)) ≡ b → Went q s h (ifRoom b s (betterBy c s) (leftBy q s h c) (h .list) (lentAfter (effectFor q s h) (h .lent)))
+room-went : (q : Asked) (s : Search) (h : Held) (c : Compiled) → Compiles q s h → effectFor q s h .answer ≡ compiled c → (b : Bool) → leb (length (leftBy q s h c)) (length (h .list)) ≡ b → Went q s h (ifRoom b s (betterBy c s) (leftBy q s h c) (h .list) (lentAfter (effectFor q s h) (h .lent)))
 unfolding ifRoom
-room-went q s h c p e true t = grown c p e
+room-went q s h c p e true t = grown c p e (leb-true (length (leftBy q s h c)) (length (h .list)) t)
 room-went q s h c p e false t = outgrown c p e (leb-false (length (leftBy q s h c)) (length (h .list)) t)
 
-compile-went : (q : Asked) (s : Search) (h : Held) → Passed q s (h .list) → (a : Call.Answer) → effectFor q s h .answer ≡ a → Went q s h (afterCompile a (effectFor q s h) s (others q s (h .list)) h)
+compile-went : (q : Asked) (s : Search) (h : Held) → Compiles q s h → (a : Call.Answer) → effectFor q s h .answer ≡ a → Went q s h (afterCompile a (effectFor q s h) s (others q s (h .list)) h)
 unfolding afterCompile
 compile-went q s h p (refused n) e = halted n p e
 compile-went q s h p (compiled c) e = room-went q s h c p e _ refl
@@ -139,7 +131,7 @@ compile-went q s h p (compiled c) e = room-went q s h c p e _ refl
 above-went : (q : Asked) (s : Search) (h : Held) → Passed q s (h .list) → (b : Bool) → ltZ (s .best) (pickedFrom (h .list) (q .place) .bound) ≡ b → Went q s h (ifAbove b q s (pickedFrom (h .list) (q .place)) (others q s (h .list)) h)
 unfolding ifAbove
 above-went q s h p false e = dropped p (at-most-if _ _ e)
-above-went q s h p true e = compile-went q s h p (effectFor q s h .answer) refl
+above-went q s h p true e = compile-went q s h (record { passed = p; runs = below-if _ _ e }) (effectFor q s h .answer) refl
 
 pick-went : (q : Asked) (s : Search) (h : Held) (n : Option ℕ) → pickRefusal q s (h .list) ≡ n → Went q s h (unless n q s h)
 unfolding unless

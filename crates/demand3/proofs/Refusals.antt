@@ -1,19 +1,19 @@
 -- RefusedForRoomAlone: a pick of an open record passes 1 to 9 and 14, its relaxed run never makes 10, so 11 to 13 are left.
 use mathlib.Core.Path.{_≡_, refl, sym, subst}
 use mathlib.Core.Logic.{_⊎_, inl, inr}
+use mathlib.Core.Option.{none}
 use Prim.Native.Nat.{ℕ, _≤_, _<_}
 use native.Mathlib.Decide.{decLe}
 use native.Mathlib.Omega.{arith}
 use lib.IntN.{ℤ}
-use Rattle.diagram.specs.After4.{CutsetKind}
-use Rattle.diagram.specs.After6.{refused as stoppedAt, finish, run}
-use Rattle.diagram.specs.Run.{Mode, relaxing, Run, going, stopped}
+use Rattle.diagram.specs.After6.{refused as stoppedAt}
+use Rattle.diagram.specs.Run.{relaxing}
 use Rattle.diagram.specs.Tables.{Diagram}
 use Rattle.theorems.proofs.Fits.{Stop, ten, eleven, twelve}
-use Rattle.theorems.proofs.Ten.{never-ten}
-use Rattle.calls.specs.Asked.{Given, itemsOf, recordOf}
-use Rattle.calls.specs.Compile.{Request, Rooms, refused, settingsOf, runOf}
-use Rattle.call_laws.proofs.Refusals.{run-stop}
+use Rattle.calls.specs.Asked.{Given}
+use Rattle.calls.specs.Refusals.{compileRefusal}
+use Rattle.calls.specs.Compile.{Request, Rooms, refused, runOf}
+use Rattle.call_laws.proofs.Refusals.{run-stop, not-ten}
 use Rattle.demand2.specs.Records.{Allowed, Valid}
 use Rattle.demand2.proofs.Accepted.{accepted-is}
 use Rattle.searches.specs.Compile.{Effect, effect, compileEffect}
@@ -35,30 +35,20 @@ ForRoom n = (n ≡ 11) ⊎ ((n ≡ 12) ⊎ (n ≡ 13))
 
 -- ---- the compile
 
-grown-stop : (m : Mode) (k : CutsetKind) (n : ℕ) (d : Diagram) (x : Run) → finish m k x ≡ stoppedAt n d → x ≡ stopped n d
-unfolding finish
-grown-stop m k n d (going e) q = let z : _≡_ {A = ℕ} 0 1 = cc in absurd (omega arith)
-grown-stop m k n d (stopped i e) q = let a : i ≡ n = cc in let b : e ≡ d = cc in cc
-
-not-ten : (q : Request) (m : Rooms) (d : Diagram) → q .mode ≡ relaxing → q .problem .width ≤ 256 → runOf q m ≡ stoppedAt 10 d → ⊥
-unfolding runOf settingsOf run
-not-ten q m d relaxed w e =
-    never-ten (settingsOf q m) (itemsOf (q .problem .weights) (q .problem .profits)) (recordOf (q .given)) d (λ x. let z : _≡_ {A = ℕ} 0 1 = cc in omega arith) w (grown-stop (q .mode) (q .kind) 10 d _ e)
-
 pub narrow : (q : Request) → Allowed (q .problem) → q .problem .width ≤ 256
 narrow q a = elim (decLe (q .problem .width) 256) [ yes h ↦ h | no n ↦ absurd (a .passes6 (inr (omega arith))) ]
 
-stop-for-room : (q : Request) (m : Rooms) (d : Diagram) {n : ℕ} → q .mode ≡ relaxing → q .problem .width ≤ 256 → Stop n → runOf q m ≡ stoppedAt n d → ForRoom n
-stop-for-room q m d relaxed w ten e = absurd (not-ten q m d relaxed w e)
-stop-for-room q m d relaxed w eleven e = inl refl
-stop-for-room q m d relaxed w twelve e = inr (inl refl)
+stop-for-room : (q : Request) (m : Rooms) (d : Diagram) {n : ℕ} → q .mode ≡ relaxing → compileRefusal (q .problem) (q .given) ≡ none → Stop n → runOf q m ≡ stoppedAt n d → ForRoom n
+stop-for-room q m d relaxed c ten e = absurd (not-ten q m d c e (λ x. let z : _≡_ {A = ℕ} 0 1 = cc in omega arith))
+stop-for-room q m d relaxed c eleven e = inl refl
+stop-for-room q m d relaxed c twelve e = inr (inl refl)
 
 compiled-answer : (q : Request) (m : Rooms) (n : ℕ) → q .mode ≡ relaxing → Allowed (q .problem) → Valid (q .problem) (q .given) → (x : Effect) → Compiling.Went q m x → x .answer ≡ refused n → ForRoom n
 unfolding effect
 compiled-answer q m n relaxed a v x (Compiling.early k e) r = let c = accepted-is (q .problem) (q .given) .1 a v in let z : _≡_ {A = ℕ} 0 1 = cc in absurd (omega arith)
 compiled-answer q m n relaxed a v x (Compiling.halted k d e f) r =
     let z : k ≡ n = cc in
-    subst (λ (i : ℕ). ForRoom i) z (stop-for-room q m d relaxed (narrow q a) (run-stop q m k d f) f)
+    subst (λ (i : ℕ). ForRoom i) z (stop-for-room q m d relaxed e (run-stop q m k d f) f)
 compiled-answer q m n relaxed a v x (Compiling.overfull o e f h) r = let z : 13 ≡ n = cc in inr (inr (sym z))
 compiled-answer q m n relaxed a v x (Compiling.done o e f h) r = let z : _≡_ {A = ℕ} 0 1 = cc in absurd (omega arith)
 
@@ -90,7 +80,7 @@ went-for-room b s a n p r (halted k y e) q =
     subst (λ (i : ℕ). ForRoom i) z (compile-for-room (requestFor (askedBy b a) s (pickedFrom (a .held .list) (a .place))) _ k refl (p .allowed) (p .valid) e)
 went-for-room b s a n p r (outgrown c y e o) q = let z : 13 ≡ n = cc in inr (inr (sym z))
 went-for-room b s a n p r (dropped y low) q = let z : _≡_ {A = ℕ} 0 1 = cc in absurd (omega arith)
-went-for-room b s a n p r (grown c y e) q = let z : _≡_ {A = ℕ} 0 1 = cc in absurd (omega arith)
+went-for-room b s a n p r (grown c y e l) q = let z : _≡_ {A = ℕ} 0 1 = cc in absurd (omega arith)
 
 -- Statement 4, refusals.
 pub refused-for-room-alone : RefusedForRoomAlone

@@ -52,11 +52,6 @@ not-refused q m o a v runs few n x (Compiling.halted k d e f) r = let z : _≡_ 
 not-refused q m o a v runs few n x (Compiling.overfull p e f h) r = let z : p ≡ o = cc in omega (arith, ap (λ (u : Outcome). length (drained (q .given .path) u)) z)
 not-refused q m o a v runs few n x (Compiling.done p e f h) r = let z : _≡_ {A = ℕ} 0 1 = cc in omega arith
 
--- what a request hands to its run
-asked-are : (q : Request) (m : Rooms) → (settingsOf q m .mode ≡ q .mode) × (settingsOf q m .width ≡ q .problem .width) × (settingsOf q m .nodeRoom ≡ m .nodes) × (settingsOf q m .edgeRoom ≡ m .edges)
-unfolding settingsOf
-asked-are q m = (refl, refl, refl, refl)
-
 record Finishes (q : Request) (m : Rooms) : Type 0 where
   outcome : Outcome
   runs : runOf q m ≡ finished outcome
@@ -102,7 +97,7 @@ module _ (through : RelaxedRunsThrough) (b : Blocks) (bound : ℤ) (s : Search) 
   went-accepted r (halted k y e) = absurd (compiles k e)
   went-accepted r (outgrown c y e o) = absurd (omega (arith, left-fits c e))
   went-accepted r (dropped y low) = refl
-  went-accepted r (grown c y e) = refl
+  went-accepted r (grown c y e l) = refl
 
 -- Statement 4, room.
 pub room-is-enough-if : RelaxedRunsThrough → RoomIsEnough

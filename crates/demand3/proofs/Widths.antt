@@ -8,9 +8,8 @@ use native.Mathlib.Omega.{arith}
 use lib.IntN.{ℤ}
 use lib.ListN.{length, getD}
 use Rattle.words.specs.I64.{InI64}
-use Rattle.knapsack.specs.Items.{Item}
+use Rattle.knapsack.specs.Items.{Item, noItem}
 use Rattle.knapsack.specs.Knapsack.{profitOf}
-use Rattle.theorems.proofs.Path.{noItem}
 use Rattle.calls.specs.Asked.{Problem, Given}
 use Rattle.demand2.specs.Records.{itemsIn, Allowed, Valid, Completes, Achieved}
 use Rattle.demand2.proofs.Numbers.{natural-is-i64}

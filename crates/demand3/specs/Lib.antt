@@ -1,3 +1,4 @@
--- Demand 3: what its statements speak of, and the statements.
+-- Demand 3: what its statements speak of, and the statements; and that start and pick refuse by the table.
 pub mod Searches
 pub mod Statements
+pub mod Refusals

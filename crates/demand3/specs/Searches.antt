@@ -42,7 +42,7 @@ pub record Leads (b : Blocks) (ps : List Place) (x : ℤ) : Type 0 where
   pub completes : Completes (problemOf b) (givenAt place) selection
   pub earned : x ≤ℤ earns (problemOf b) selection
 
--- 'the held path is a selection that fits': it names every item once, and earns v
+-- the path is a selection that fits the page: it names every item once, and earns v
 abbrev pub IsSelection : Blocks → List ℕ → ℤ → Type 0
 IsSelection b path v = Achieved (problemOf b) (rootGiven b) path v
 

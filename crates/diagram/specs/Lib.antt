@@ -1,4 +1,4 @@
--- Document 01's diagram: a file a paragraph, in the document's order.
+-- Document 01's diagram: what its paragraphs speak of, a file for each paragraph in the document's order, and the figures.
 pub mod Record
 pub mod Node
 pub mod Tables

@@ -5,7 +5,7 @@ use Prim.Native.Nat.{ℕ}
 use lib.ListN.{getD, set}
 use Rattle.words.specs.I64.{top}
 
--- Rule 1: 'A node has capacity, depth, value from top, value from bottom, best edge, newest inbound edge, fast bound and flags
+-- Rule 1: 'A node has capacity, depth, value from top …, value from bottom …, best edge, newest inbound edge, fast bound … and flags
 -- exact, relaxed, marked, cutset, deleted.' Value, bottom and fast are i64, as words. An edge is 0 for none, e + 1 for edge row e.
 pub record Node : Type 0 where
   pub capacity : ℕ

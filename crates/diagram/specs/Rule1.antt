@@ -13,9 +13,10 @@ use Rattle.diagram.specs.Run.{Settings, Run, going, need}
 unfoldable pub rootOnly : Record → Diagram
 rootOnly r = record { nodes = fresh (r .capacity) (r .depth) (r .value) true ∷ []; edges = []; layers = []; last = unsquashed; start = 0 }
 
+-- before the root: no row is written
 abbrev pub blank : Diagram
 blank = record { nodes = []; edges = []; layers = []; last = unsquashed; start = 0 }
 
--- The root needs a node row like any other.
+-- The root needs a node row like any other: 11 where none is lent.
 unfoldable pub rooted : Settings → Record → Run
 rooted s r = need (ltb 0 (s .nodeRoom)) 11 blank (going (rootOnly r))

@@ -45,7 +45,7 @@ expandSquashed (halted n d) s left i k = stopped n d
 unfoldable pub layerStep : Settings → List Item → Item → ℕ → Diagram → Run
 layerStep s left i k d = expandSquashed (squash (s .mode) s (ordered d) d) s left i k
 
--- 'While items remain: stop if the coming layer is empty. Else order it, squash it, store its row range', and expand it (rule 3).
+-- 'While items remain: stop if the coming layer is empty … Else order it …, squash it, store its row range', and expand it (rule 3).
 unfoldable pub grow : Settings → List Item → ℕ → Diagram → Run
 grow s [] k d = going (storeLast (hasRows d) d)
 grow s (i ∷ is) k d =

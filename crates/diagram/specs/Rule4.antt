@@ -34,7 +34,7 @@ pushEdge p c decision cost d =
       start = d .start;
     }
 
--- 'the run needs … an edge row (12) more than lent'
+-- 'the run needs a node row (11) or edge row (12) more than lent': an edge row
 unfoldable pub addEdge : Settings → ℕ → ℕ → ℕ → ℕ → Diagram → Run
 addEdge s p c decision cost d = need (ltb (length (d .edges)) (s .edgeRoom)) 12 d (going (pushEdge p c decision cost d))
 

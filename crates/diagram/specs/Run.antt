@@ -1,4 +1,4 @@
--- How a run goes on or stops: 'For 10 to 12 the run's first unmet need decides; node and edge tables then hold what was written before'.
+-- How a run goes on or stops: 'For 10 to 12 the run's first unmet need decides, …; node and edge tables then hold what was written before'.
 use mathlib.Core.Bool.{Bool, true, false}
 use Prim.Native.Nat.{ℕ}
 use Rattle.diagram.specs.Tables.{Diagram}

@@ -49,7 +49,7 @@ answers =
     ∷ case relaxing 1 lastExactLayer lowest (item 0 0 ∷ item 1 0 ∷ item 1 0 ∷ []) 1 (answer false (some (pos 0)) (4 ∷ 3 ∷ 0 ∷ []) none [] 7 8 (shown 1 (pos 0) (pos 0) 1 (0 ∷ []) ∷ []))
     -- An edge from a parent that isn't exact clears the flag of a child that is there. Frontier: layers from last to first, parents of every node that isn't exact.
     ∷ case relaxing 2 frontier lowest (item 1 0 ∷ item 1 0 ∷ item 1 0 ∷ []) 2 (answer true (some (pos 0)) (4 ∷ 2 ∷ 0 ∷ []) (some (pos 0)) (4 ∷ 2 ∷ 0 ∷ []) 10 13 (shown 2 (pos 0) (pos 0) 2 (2 ∷ 0 ∷ []) ∷ shown 1 (pos 0) (pos 0) 1 (1 ∷ []) ∷ shown 2 (pos 0) (pos 0) 1 (0 ∷ []) ∷ []))
-    -- The walk goes on above the terminal, past nodes that are neither exact nor relaxed. Reading 9: with another choice among the equal terminals the exact flag and the best exact value move.
+    -- The walk goes on above the terminal, past nodes that are neither exact nor relaxed. With another choice among the equal terminals the exact flag and the best exact value move.
     ∷ case relaxing 2 lastExactLayer lowest (item 1 0 ∷ item 1 0 ∷ item 1 1 ∷ []) 2 (answer true (some (pos 1)) (5 ∷ 2 ∷ 0 ∷ []) (some (pos 1)) (5 ∷ 2 ∷ 0 ∷ []) 10 13 (shown 1 (pos 0) (pos 1) 1 (1 ∷ []) ∷ shown 2 (pos 0) (pos 1) 1 (0 ∷ []) ∷ []))
     -- Exact diagrams drain theirs.
     ∷ case relaxing 2 lastExactLayer lowest (item 1 0 ∷ item 1 0 ∷ item 0 0 ∷ []) 2 (answer true (some (pos 0)) (4 ∷ 2 ∷ 0 ∷ []) (some (pos 0)) (4 ∷ 2 ∷ 0 ∷ []) 9 13 (shown 1 (pos 0) (pos 0) 1 (1 ∷ []) ∷ shown 2 (pos 0) (pos 0) 1 (0 ∷ []) ∷ []))
@@ -111,7 +111,7 @@ lentFrom nodeRoom edgeRoom mode width kind lower items start figures =
 
 unfoldable pub tables : List TableCase
 tables =
-    -- Reading 1: a squashed run that dies out with items left stores 0..0, and marks nothing.
+    -- A squashed run that dies out with items left stores 0..0, and marks nothing.
     lent 1024 1792 relaxing 3 lastExactLayer (pos 1) (item 1 0 ∷ item 2 1 ∷ item 0 0 ∷ item 2 1 ∷ []) 3 (record {
       number = 0;
       nodes = (node 3 0 (pos 0) lowest 0 0 (pos 2) (E ∷ [])
@@ -134,7 +134,38 @@ tables =
           ∷ []);
       layers = (range 0 0 ∷ range 3 8 ∷ range 1 3 ∷ range 0 1 ∷ []);
     })
-    -- Reading 1: one that dies out at the last item stores nothing more: the rows of its last stored layer, a deleted one too, get 0 and a mark and pass it up.
+    -- A deleted row keeps its best edge, an older one than its newest; the merged row's best edge is the better of those that were copied.
+    ∷ lent 1024 1792 relaxing 2 lastExactLayer lowest (item 1 1 ∷ item 1 2 ∷ item 1 1 ∷ []) 3 (record {
+      number = 0;
+      nodes = (node 3 0 (pos 0) (pos 4) 0 0 (pos 4) (E ∷ M ∷ [])
+          ∷ node 2 1 (pos 1) (pos 3) 1 1 (pos 3) (E ∷ M ∷ C ∷ [])
+          ∷ node 3 1 (pos 0) (pos 3) 2 2 (pos 3) (E ∷ M ∷ C ∷ [])
+          ∷ node 2 2 (pos 2) lowest 3 6 highest (E ∷ D ∷ [])
+          ∷ node 3 2 (pos 0) lowest 4 4 highest (E ∷ D ∷ [])
+          ∷ node 1 2 (pos 3) (pos 1) 5 5 (pos 1) (E ∷ M ∷ [])
+          ∷ node 3 2 (pos 2) (pos 1) 8 9 (pos 1) (R ∷ M ∷ [])
+          ∷ node 0 3 (pos 4) (pos 0) 10 10 highest (E ∷ M ∷ [])
+          ∷ node 1 3 (pos 3) (pos 0) 11 11 highest (E ∷ M ∷ [])
+          ∷ node 2 3 (pos 3) (pos 0) 12 12 highest (M ∷ [])
+          ∷ node 3 3 (pos 2) (pos 0) 13 13 highest (M ∷ [])
+          ∷ []);
+      edges = (edge 0 1 1 1 0
+          ∷ edge 0 2 0 0 0
+          ∷ edge 2 3 3 2 0
+          ∷ edge 2 4 2 0 0
+          ∷ edge 1 5 3 2 0
+          ∷ edge 1 3 2 0 3
+          ∷ edge 1 6 2 0 0
+          ∷ edge 2 6 3 2 7
+          ∷ edge 2 6 2 0 8
+          ∷ edge 5 7 5 1 0
+          ∷ edge 5 8 4 0 0
+          ∷ edge 6 9 5 1 0
+          ∷ edge 6 10 4 0 0
+          ∷ []);
+      layers = (range 7 11 ∷ range 3 7 ∷ range 1 3 ∷ range 0 1 ∷ []);
+    })
+    -- One that dies out at the last item stores nothing more: the rows of its last stored layer, a deleted one too, get 0 and a mark and pass it up.
     ∷ lent 1024 1792 relaxing 3 lastExactLayer (pos 1) (item 1 0 ∷ item 2 1 ∷ item 2 1 ∷ []) 3 (record {
       number = 0;
       nodes = (node 3 0 (pos 0) (pos 1) 0 0 (pos 2) (E ∷ M ∷ [])
@@ -157,7 +188,7 @@ tables =
           ∷ []);
       layers = (range 3 8 ∷ range 1 3 ∷ range 0 1 ∷ []);
     })
-    -- Reading 3: the cutset flag stands on every listed row, marked or not.
+    -- The cutset flag stands on every listed row, marked or not.
     ∷ lent 1024 1792 relaxing 1 lastExactLayer (pos 0) (item 1 0 ∷ item 1 1 ∷ item 0 0 ∷ []) 1 (record {
       number = 0;
       nodes = (node 1 0 (pos 0) (pos 1) 0 0 (pos 1) (E ∷ M ∷ [])
@@ -179,14 +210,14 @@ tables =
           ∷ []);
       layers = (range 6 7 ∷ range 3 6 ∷ range 1 3 ∷ range 0 1 ∷ []);
     })
-    -- Reading 8: no node row lent is 11, nothing written.
+    -- No node row lent is 11, nothing written.
     ∷ lent 0 1792 relaxing 1 lastExactLayer lowest (item 1 4 ∷ item 1 3 ∷ item 1 2 ∷ []) 2 (record {
       number = 11;
       nodes = [];
       edges = [];
       layers = [];
     })
-    -- Reading 7: the parent's fast bound is written before its children; for one child 11 comes before 12.
+    -- The parent's fast bound is written before its children; for one child 11 comes before 12.
     ∷ lent 1 0 relaxing 1 lastExactLayer lowest (item 1 4 ∷ item 1 3 ∷ item 1 2 ∷ []) 2 (record {
       number = 11;
       nodes = (node 2 0 (pos 0) lowest 0 0 (pos 9) (E ∷ [])
@@ -194,7 +225,7 @@ tables =
       edges = [];
       layers = (range 0 1 ∷ []);
     })
-    -- Reading 7: a child is nothing, or node and edge: no edge room, so no row.
+    -- A child is nothing, or node and edge: no edge room, so no row.
     ∷ lent 1024 0 relaxing 1 lastExactLayer lowest (item 1 4 ∷ item 1 3 ∷ item 1 2 ∷ []) 2 (record {
       number = 12;
       nodes = (node 2 0 (pos 0) lowest 0 0 (pos 9) (E ∷ [])
@@ -202,7 +233,7 @@ tables =
       edges = [];
       layers = (range 0 1 ∷ []);
     })
-    -- Reading 7: no room for one more edge to a child that is there.
+    -- No room for one more edge to a child that is there.
     ∷ lent 1024 5 relaxing 1 lastExactLayer lowest (item 1 4 ∷ item 1 3 ∷ item 1 2 ∷ []) 2 (record {
       number = 12;
       nodes = (node 2 0 (pos 0) lowest 0 0 (pos 9) (E ∷ [])
@@ -220,7 +251,7 @@ tables =
           ∷ []);
       layers = (range 1 3 ∷ range 0 1 ∷ []);
     })
-    -- Reading 7: no room for the merged row: nothing of it, no deleted flag.
+    -- No room for the merged row: nothing of it, no deleted flag.
     ∷ lent 6 1792 relaxing 1 lastExactLayer lowest (item 1 4 ∷ item 1 3 ∷ item 1 2 ∷ []) 2 (record {
       number = 11;
       nodes = (node 2 0 (pos 0) lowest 0 0 (pos 9) (E ∷ [])
@@ -239,7 +270,7 @@ tables =
           ∷ []);
       layers = (range 1 3 ∷ range 0 1 ∷ []);
     })
-    -- Reading 7: the merged row stays if its first copied edge finds no room; the first merged node is flagged, later ones aren't yet.
+    -- The merged row stays if its first copied edge finds no room; the first merged node is flagged, later ones aren't yet.
     ∷ lent 1024 6 relaxing 1 lastExactLayer lowest (item 1 4 ∷ item 1 3 ∷ item 1 2 ∷ []) 2 (record {
       number = 12;
       nodes = (node 2 0 (pos 0) lowest 0 0 (pos 9) (E ∷ [])
@@ -259,7 +290,7 @@ tables =
           ∷ []);
       layers = (range 1 3 ∷ range 0 1 ∷ []);
     })
-    -- Reading 7: no room for the second merged node's first edge: the first node's is copied, the second is flagged.
+    -- No room for the second merged node's first edge: the first node's is copied, the second is flagged.
     ∷ lent 1024 7 relaxing 1 lastExactLayer lowest (item 1 4 ∷ item 1 3 ∷ item 1 2 ∷ []) 2 (record {
       number = 12;
       nodes = (node 2 0 (pos 0) lowest 0 0 (pos 9) (E ∷ [])
@@ -372,7 +403,7 @@ tables =
     })
     ∷ []
 
--- Reading 7 and row 10: a full layer, of 1,024 rows, takes neither a child nor a merged row, before 11 and 12 are asked; one row less does, however many rows there are in all.
+-- Row 10: a full layer, of 1,024 rows, takes neither a child nor a merged row, before 11 and 12 are asked; one row less does, however many rows there are in all.
 abbrev crowd : ℕ → ℕ → Diagram
 crowd start rows = record { nodes = replicate rows noNode; edges = []; layers = []; last = unsquashed; start = start }
 

@@ -5,7 +5,7 @@ use mathlib.Core.List.{List}
 use Prim.Native.Nat.{ℕ, suc, _+_, _-_, _*_, _<_, _≤_}
 use native.Mathlib.Omega.{arith}
 use lib.Dec.{leb}
-use lib.ListN.{length, getD, take}
+use lib.ListN.{length, getD}
 use lib.Seq.{getD-take}
 use borrow.Author.Tests.{le-leb, lt-leb}
 use Rattle.knapsack.specs.Items as Blocks
@@ -19,11 +19,10 @@ use Rattle.branch.specs.declared.Counts.{Counts}
 use Rattle.branch.specs.declared.Rooms.{Rooms}
 use Rattle.branch.specs.declared.Step.{Step}
 use Rattle.branch.specs.declared.Step.the-variants.{Going, Stopped}
-use Rattle.branch.specs.declared.Branch.{Branch}
-use Rattle.branch.specs.State.{Ready, Fit, StillFit, countsOf, stepOf, diagramOf, Stands, Held, Stepped, Branched}
+use Rattle.branch.specs.State.{Ready, Fit, StillFit, countsOf, diagramOf, Stands, Held, Stepped, Branched}
 use Rattle.branch.proofs.Branches.{Kept, branch-kept}
 use Rattle.expand.specs.declared.Item.{Item}
-use Rattle.expand.specs.State.{Roomy, Decides, Taken, Both}
+use Rattle.expand.specs.State.{Roomy, Taken, Both}
 
 -- tables with room enough are ready
 pub ready-of : (start : ℕ) (k : Counts) (rooms : Rooms) (ns es : List ℕ) → Roomy start k rooms ns es → Ready start k rooms ns es
@@ -59,7 +58,7 @@ kept-row d e k r h =
     sym (getD-take (d .start) (e .nodes) r noNode h) ∙ ap (λ (l : List Node). getD l r noNode) (k .front-is) ∙ getD-take (d .start) (d .nodes) r noNode h
 
 -- a step that went on leaves a diagram on which the next one stands
-pub stands-on : (s : Settings) (d e : Diagram) (oldN oldE : List ℕ) (start : ℕ) (k k′ : Counts) (rooms : Rooms) → Stands s d oldN oldE start k rooms → Kept d e → k′ ≡ countsOf e → Fit start k′ rooms → Stands s e oldN oldE start k′ rooms
+stands-on : (s : Settings) (d e : Diagram) (oldN oldE : List ℕ) (start : ℕ) (k k′ : Counts) (rooms : Rooms) → Stands s d oldN oldE start k rooms → Kept d e → k′ ≡ countsOf e → Fit start k′ rooms → Stands s e oldN oldE start k′ rooms
 stands-on s d e oldN oldE start k k′ rooms st kept c fit =
     record {
       first-is = st .first-is ∙ sym (kept .start-is);

@@ -1,11 +1,11 @@
 -- A node's expansion: its fast bound noted, then both decisions or none.
-use mathlib.Core.Path.{_≡_, refl, sym, ap, subst, _∙_}
-use mathlib.Core.Bool.{Bool, true, false}
+use mathlib.Core.Path.{_≡_, sym, ap, subst, _∙_}
+use mathlib.Core.Bool.{true, false}
 use mathlib.Core.List.{List, _∷_}
-use Prim.Native.Nat.{ℕ, suc, _+_, _-_, _*_, _<_, _≤_}
+use Prim.Native.Nat.{ℕ, _+_, _<_, _≤_}
 use native.Mathlib.Omega.{arith}
 use lib.Dec.{ltb}
-use lib.ListN.{length, getD, set, drop, length-set}
+use lib.ListN.{length, getD, drop, length-set}
 use lib.Seq.{getD-set-same}
 use borrow.Author.Tests.{lt-ltb, le-ltb}
 use Rattle.words.specs.I64.{mid, satAdd}
@@ -13,16 +13,16 @@ use Rattle.knapsack.specs.Items as Blocks
 use Rattle.knapsack.specs.Items.{itemsOf, counted}
 use Rattle.knapsack.specs.FastBound.{fastBound}
 use Rattle.knapsack.proofs.Limits.{items-from}
-use Rattle.diagram.specs.Node.{Node, noNode, nodeAt, update, withFast}
+use Rattle.diagram.specs.Node.{Node, noNode, nodeAt, withFast}
 use Rattle.diagram.specs.Tables.{Diagram, withNodes}
-use Rattle.diagram.specs.Run.{Settings, Run, going, onlyIf}
-use Rattle.diagram.specs.Rule3.{noteFast, reach, branchBoth, expand}
+use Rattle.diagram.specs.Run.{Settings, onlyIf}
+use Rattle.diagram.specs.Rule3.{noteFast, reach, expand}
 use Rattle.rows.specs.Access.{NodeRead, NodeWritten}
 use Rattle.branch.specs.declared.Counts.{Counts}
 use Rattle.branch.specs.declared.Rooms.{Rooms}
 use Rattle.branch.specs.declared.Step.{Step}
 use Rattle.branch.specs.declared.Step.the-variants.{Going}
-use Rattle.branch.specs.State.{Fit, countsOf, Stands, Held, Stepped}
+use Rattle.branch.specs.State.{Fit, countsOf, Stands, Held}
 use Rattle.expand.specs.declared.Item.{Item}
 use Rattle.expand.specs.State.{Decides, Both, Expanded}
 

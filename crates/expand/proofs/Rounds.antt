@@ -2,7 +2,7 @@
 use mathlib.Core.Path.{_≡_, refl, sym, ap, subst, _∙_}
 use mathlib.Core.Bool.{Bool, true, false}
 use mathlib.Core.List.{List, [], _∷_, _++_}
-use Prim.Native.Nat.{ℕ, suc, _+_, _-_, _*_, _<_, _≤_}
+use Prim.Native.Nat.{ℕ, suc, _+_, _<_, _≤_}
 use native.Mathlib.Omega.{arith}
 use lib.Dec.{ltb}
 use lib.ListN.{length, getD, set, take, drop, length-set, length-take, take-append-drop, List·getD-map}
@@ -20,7 +20,7 @@ use Rattle.branch.specs.declared.Counts.{Counts}
 use Rattle.branch.specs.declared.Rooms.{Rooms}
 use Rattle.branch.specs.declared.Step.{Step}
 use Rattle.branch.specs.declared.Step.the-variants.{Going, Stopped}
-use Rattle.branch.specs.State.{Fit, StillFit, countsOf, stepOf, diagramOf, Stands, Held, Stepped}
+use Rattle.branch.specs.State.{Fit, StillFit, countsOf, diagramOf, Stands, Stepped}
 use Rattle.branch.proofs.Branches.{Kept, branch-kept}
 use Rattle.order.specs.Below.{Below}
 use Rattle.order.proofs.Below.{below-at}
@@ -132,12 +132,12 @@ pub record Passed (weights profits rows : List ℕ) (start : ℕ) (k : Counts) (
   pub fits : StillFit start rooms step
   pub did : (s : Settings) (d : Diagram) (oldN oldE : List ℕ) (item : Blocks.Item) (rest : List Blocks.Item) → Layer weights profits rows start k rooms depth lower ns₀ es₀ s d oldN oldE item rest → Stepped (expandAll s (item ∷ rest) item depth (take i rows) d) oldN oldE step ns es
 
-pub passed-none : (weights profits rows : List ℕ) (start : ℕ) (k : Counts) (rooms : Rooms) (depth lower : ℕ) (ns es : List ℕ) → Fit start k rooms → Passed weights profits rows start k rooms depth lower ns es 0 (Going k) ns es
+passed-none : (weights profits rows : List ℕ) (start : ℕ) (k : Counts) (rooms : Rooms) (depth lower : ℕ) (ns es : List ℕ) → Fit start k rooms → Passed weights profits rows start k rooms depth lower ns es 0 (Going k) ns es
 unfolding expandAll
 passed-none weights profits rows start k rooms depth lower ns es fit =
     record { fits = fit; did = λ s d oldN oldE item rest l. record { step-is = ap Going (l .stands .counts-are); held = l .held } }
 
-pub passed-all : (weights profits rows : List ℕ) (start : ℕ) (k : Counts) (rooms : Rooms) (depth lower : ℕ) (ns₀ es₀ : List ℕ) (i : ℕ) (step : Step) (ns es : List ℕ) → length rows ≤ i → Passed weights profits rows start k rooms depth lower ns₀ es₀ i step ns es → AllExpanded weights profits rows start k rooms depth lower ns₀ es₀ step ns es
+passed-all : (weights profits rows : List ℕ) (start : ℕ) (k : Counts) (rooms : Rooms) (depth lower : ℕ) (ns₀ es₀ : List ℕ) (i : ℕ) (step : Step) (ns es : List ℕ) → length rows ≤ i → Passed weights profits rows start k rooms depth lower ns₀ es₀ i step ns es → AllExpanded weights profits rows start k rooms depth lower ns₀ es₀ step ns es
 passed-all weights profits rows start k rooms depth lower ns₀ es₀ i step ns es h p =
     record { fits = p .fits; does = λ s d oldN oldE item rest l. rw (take-all i rows h) at (p .did s d oldN oldE item rest l) }
 
@@ -150,7 +150,7 @@ passed-stopped weights profits rows start k rooms depth lower ns₀ es₀ i step
           rw (← e) at (rw (← expand-append s (item ∷ rest) item depth (take i rows) (drop i rows) d, take-append-drop i rows) at a);
     }
 
-pub passed-one : (weights profits rows : List ℕ) (start : ℕ) (k : Counts) (rooms : Rooms) (depth lower : ℕ) (ns₀ es₀ : List ℕ) (i : ℕ) (step : Step) (ns es : List ℕ) (c : Counts) (r : Step) (ns′ es′ : List ℕ) → i < length rows → Below start rows → step ≡ Going c → Passed weights profits rows start k rooms depth lower ns₀ es₀ i step ns es → Expanded weights profits start c rooms depth lower (getD rows i 0) ns es r ns′ es′ → Passed weights profits rows start k rooms depth lower ns₀ es₀ (i + 1) r ns′ es′
+passed-one : (weights profits rows : List ℕ) (start : ℕ) (k : Counts) (rooms : Rooms) (depth lower : ℕ) (ns₀ es₀ : List ℕ) (i : ℕ) (step : Step) (ns es : List ℕ) (c : Counts) (r : Step) (ns′ es′ : List ℕ) → i < length rows → Below start rows → step ≡ Going c → Passed weights profits rows start k rooms depth lower ns₀ es₀ i step ns es → Expanded weights profits start c rooms depth lower (getD rows i 0) ns es r ns′ es′ → Passed weights profits rows start k rooms depth lower ns₀ es₀ (i + 1) r ns′ es′
 passed-one weights profits rows start k rooms depth lower ns₀ es₀ i step ns es c r ns′ es′ h low e p next =
     record {
       fits = next .fits;

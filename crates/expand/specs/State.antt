@@ -1,7 +1,7 @@
 -- What each function of `expand` promises: the definition's run, in its answer and in the tables.
 use mathlib.Core.Path.{_≡_}
 use mathlib.Core.List.{List, _∷_}
-use Prim.Native.Nat.{ℕ, suc, _+_, _*_, _<_, _≤_}
+use Prim.Native.Nat.{ℕ, _*_, _<_, _≤_}
 use lib.ListN.{length, getD, drop}
 use Rattle.knapsack.specs.Items as Blocks
 use Rattle.knapsack.specs.Items.{itemsOf, counted}

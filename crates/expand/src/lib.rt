@@ -1,7 +1,7 @@
 // Rule 3 of document 01, the inner loop of `_compile` in clean.rs: a node's fast bound is noted, and it is branched on if it can beat the lower bound.
 ghost use mathlib.Core.Path.{_≡_};
 ghost use mathlib.Core.List.{List};
-ghost use Prim.Native.Nat.{ℕ, suc, _+_, _-_, _*_, _<_, _≤_};
+ghost use Prim.Native.Nat.{_<_, _≤_};
 ghost use lib.ListN.{length, take};
 ghost use Rattle.diagram.specs.Node.{withFast};
 ghost use Rattle.rows.specs.Values.{nodeOf};
@@ -16,10 +16,10 @@ use rows::Node;
 use rows::NodeId;
 
 // The item that is decided: its depth, its counted weight and its profit.
-pub struct Item {
-    pub depth: usize,
-    pub weight: u64,
-    pub profit: u64,
+struct Item {
+    depth: usize,
+    weight: u64,
+    profit: u64,
 }
 
 // Take, if the weight fits the capacity that node n has left.
@@ -115,7 +115,9 @@ fn expand_node(
     n: NodeId,
 ) -> Step
     requires { ⌜ Roomy start k rooms (now nodes) (now edges) × ((n .0 < start) × (InLimits (now weights) (now profits) × (depth < length (now weights)))) ⌝ }
-    ensures { λ r. ⌜ Expanded (now (weights .entry)) (now (profits .entry)) start k rooms depth lower (n .0) (now (nodes .entry)) (now (edges .entry)) r (now (nodes .exit)) (now (edges .exit)) ⌝ }
+    ensures { λ r.
+        ⌜ Expanded (now (weights .entry)) (now (profits .entry)) start k rooms depth lower (n .0) (now (nodes .entry)) (now (edges .entry)) r
+        (now (nodes .exit)) (now (edges .exit)) ⌝ }
 {
     let node = rows::read_node(nodes, n);
     let fast = blocks::fast_upper_bound(weights, profits, depth, node.capacity);
@@ -147,7 +149,9 @@ pub fn expand_all(
 ) -> Step
     requires { ⌜ Roomy start k rooms (now nodes) (now edges) × (InLimits (now weights) (now profits) × (depth < length (now weights))) ⌝ }
     requires { ⌜ (count ≤ length (now list)) × Below start (take count (now list)) ⌝ }
-    ensures { λ r. ⌜ AllExpanded (now (weights .entry)) (now (profits .entry)) (take count (now (list .entry))) start k rooms depth lower (now (nodes .entry)) (now (edges .entry)) r (now (nodes .exit)) (now (edges .exit)) ⌝ }
+    ensures { λ r.
+        ⌜ AllExpanded (now (weights .entry)) (now (profits .entry)) (take count (now (list .entry))) start k rooms depth lower (now (nodes .entry))
+        (now (edges .entry)) r (now (nodes .exit)) (now (edges .exit)) ⌝ }
 {
     let mut step = Step::Going(k);
     let mut i = 0;

@@ -18,7 +18,6 @@ use Rattle.calls.specs.Refusals.{compileRefusal}
 use Rattle.calls.specs.Asked.{recordOf}
 use Rattle.calls.specs.Compile as Def
 use Rattle.calls.specs.Compile.{Rooms, compiled, compiledOf, runOf, compileEffect, effectOf, unless, drainInto, effect}
-use Rattle.refusals.specs.declared.Verdict.{Verdict}
 use Rattle.refusals.specs.declared.Verdict.the-variants.{Accepted, Refused}
 use Rattle.grow.specs.Told.{modeOf}
 use Rattle.cutset.specs.Whole.{kindOf}

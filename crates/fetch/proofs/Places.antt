@@ -1,9 +1,9 @@
 -- Compile into a list of record structs, against the compile that counts: answer and tables are the same, and the places are the drained records.
-use mathlib.Core.Path.{_≡_, refl, ap, subst, _∙_}
+use mathlib.Core.Path.{_≡_, refl, ap, _∙_}
 use mathlib.Core.Bool.{Bool, true, false}
 use mathlib.Core.List.{List, [], map}
 use mathlib.Core.Option.{Option, none, some}
-use Prim.Native.Nat.{ℕ, _≤_}
+use Prim.Native.Nat.{ℕ}
 use native.Mathlib.Omega.{arith}
 use lib.Dec.{leb}
 use lib.ListN.{length}
@@ -11,9 +11,9 @@ use borrow.Author.Tests.{le-leb}
 use Rattle.diagram.specs.After6.{Outcome, drained, Answer as Run, refused as stoppedAt, finished}
 use Rattle.calls.specs.Refusals.{compileRefusal}
 use Rattle.calls.specs.Compile as Words
-use Rattle.calls.specs.Compile.{Request, Rooms, runOf, refused, compiled}
+use Rattle.calls.specs.Compile.{Request, Rooms, runOf, refused}
 use Rattle.searches.specs.Compile as Structs
-use Rattle.searches.specs.Places.{Place, placeOf}
+use Rattle.searches.specs.Places.{placeOf}
 use Rattle.compile.specs.declared.Ran.{Ran}
 use Rattle.fetch.proofs.After.{AcceptedRun}
 

@@ -2,11 +2,10 @@
 use mathlib.Core.Path.{_≡_, refl, sym, ap, subst, _∙_}
 use mathlib.Core.List.{List, []}
 use mathlib.Core.Logic.{by-cases}
-use mathlib.Core.Option.{Option, none, some}
 use native.Mathlib.Decide.{decLt}
 use native.Mathlib.Nat.{div-mul-le-self}
 use native.Mathlib.Omega.{arith}
-use Prim.Native.Nat.{ℕ, _+_, _-_, _/_, _≤_}
+use Prim.Native.Nat.{ℕ, _/_, _≤_}
 use lib.IntN.{ℤ}
 use lib.ListN.{length, take, drop}
 use lib.Seq.{take-nil, drop-nil}
@@ -15,35 +14,32 @@ use Rattle.words.proofs.Laws.{sub-below, sub-from}
 use Rattle.knapsack.specs.Items.{Item, itemsOf}
 use Rattle.diagram.specs.Record.{Record, padded}
 use Rattle.diagram.specs.Node.{Node, Edge, nodeAt}
-use Rattle.diagram.specs.Tables.{Range, LastExact, Diagram, Found, at, nowhere, withNodes}
+use Rattle.diagram.specs.Tables.{Diagram, Found, at, nowhere, withNodes}
 use Rattle.diagram.specs.Run.{Mode, Settings, Run, going, stopped, relaxing}
 use Rattle.diagram.specs.Rule2.{grown}
 use Rattle.diagram.specs.After1.{bestNode}
 use Rattle.diagram.specs.After4.{CutsetKind, cutsetOf}
 use Rattle.diagram.specs.After5.{localBounds}
-use Rattle.diagram.specs.After6.{Outcome, outcome, finished, finish, run, drainRows, drainFor, drained}
+use Rattle.diagram.specs.After6.{Outcome, outcome, finished, finish, run, drainRows, drained}
 use Rattle.layout.specs.Table.{over, wordsOf}
 use Rattle.layout.specs.Rows.{nodeTable, edgeTable}
 use Rattle.layout.specs.Records.{recordWords, recordTable}
 use Rattle.calls.specs.Asked as Def
 use Rattle.calls.specs.Compile as Call
-use Rattle.calls.specs.Compile.{valueOf, compiled, compiledOf, runOf}
+use Rattle.calls.specs.Compile.{valueOf, compiledOf, runOf}
 use Rattle.call_laws.proofs.Accepted.{accepted}
 use Rattle.branch.specs.State.{countsOf}
 use Rattle.layers.specs.declared.Layers.{Layers}
-use Rattle.layers.specs.declared.Last.{Last}
 use Rattle.theorems.proofs.Links.{SameLinks, same-wired, Wired}
 use Rattle.theorems.proofs.Local.{plain, bounds-dressed}
 use Rattle.finish.specs.Bounds.{Rewritten}
 use Rattle.cutset.specs.declared.Wanted.{Wanted}
-use Rattle.cutset.specs.declared.Kind.{Kind}
-use Rattle.cutset.specs.Trace.{recordPath, drainedOf, windowOf, Settled}
+use Rattle.cutset.specs.Trace.{drainedOf}
 use Rattle.cutset.specs.Whole.{kindOf, Bounded, Flagged, Windowed, WindowDrained}
 use Rattle.cutset.proofs.Commute.{bounded, of-flags}
 use Rattle.cutset.proofs.Handing.{alike-at}
 use Rattle.cutset.proofs.Outcomes.{outcome-nodes, outcome-drained, outcome-none}
 use Rattle.grow.specs.Told.{modeOf}
-use Rattle.finalize.specs.declared.Value.{Value}
 use Rattle.finalize.specs.declared.Value.the-variants.{Is, Missing}
 use Rattle.finalize.specs.declared.Given.{Given}
 use Rattle.finalize.specs.Ended.{valueFrom}
@@ -56,10 +52,9 @@ use Rattle.compile.specs.declared.Request.{Request}
 use Rattle.compile.specs.declared.Ran.{Ran}
 use Rattle.compile.specs.declared.Answer.{Answer}
 use Rattle.compile.specs.Asked.{problemOf, givenOf, requestOf, givenFrom}
-use Rattle.compile.specs.Answered.{answerFrom}
-use Rattle.compile.specs.Counted.{layersOf, Laid}
+use Rattle.compile.specs.Counted.{layersOf}
 use Rattle.compile.proofs.Running.{deep, long, short, path-back}
-use Rattle.fetch.specs.Fetched.{wantedFrom, Fetching, Fetchable, Window, RecordsFetched}
+use Rattle.fetch.specs.Fetched.{wantedFrom, Fetching, Fetchable, RecordsFetched}
 
 word-back : (w : ℕ) → word (number w) ≡ w
 unfolding word number

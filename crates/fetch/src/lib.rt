@@ -36,7 +36,9 @@ pub fn fetch(
     path: &[u8],
 ) -> usize
     requires { ⌜ Fetchable ran q (now path) (now nodes) (now edges) ⌝ }
-    ensures { λ n. ⌜ RecordsFetched ran q (now (path .entry)) (now (nodes .entry)) (now (edges .entry)) (now (list .entry)) first n (now (nodes .exit)) (now (list .exit)) ⌝ }
+    ensures { λ n.
+        ⌜ RecordsFetched ran q (now (path .entry)) (now (nodes .entry)) (now (edges .entry)) (now (list .entry)) first n (now (nodes .exit))
+        (now (list .exit)) ⌝ }
 {
     let answer = ran.answer;
     let best = answer.best;

@@ -15,6 +15,7 @@ use Rattle.diagram.specs.After5.{localBounds}
 use Rattle.diagram.specs.After6.{outcome, drainRows, drained}
 use Rattle.layout.specs.Table.{over}
 use Rattle.layout.specs.Rows.{nodeWords, nodeTable}
+use Rattle.layout.proofs.Records.{over-none}
 use Rattle.rows.specs.declared.NodeId.{NodeId}
 use Rattle.rows.specs.Access.{FieldRead}
 use Rattle.layers.specs.declared.Layers.{Layers}
@@ -27,14 +28,14 @@ use Rattle.finish.specs.Bounds.{Layered, wasSquashed, BoundsComputed}
 use Rattle.cutset.specs.declared.Wanted.{Wanted}
 use Rattle.cutset.specs.declared.Kind.{Kind}
 use Rattle.cutset.specs.Trace.{Settled, Trace, Tracing, Traced}
-use Rattle.cutset.specs.Whole.{kindOf, counting, Shaped, cutsetFrom, Bounded}
+use Rattle.cutset.specs.Whole.{kindOf, counting, Shaped, cutsetFrom}
 use Rattle.cutset.proofs.Whole.{count-first, counted, found-is}
 use Rattle.cutset.proofs.Commute.{bounded}
 use Rattle.cutset.proofs.Outcomes.{outcome-nodes}
 use Rattle.finalize.specs.declared.Given.{Given}
-use Rattle.finalize.specs.Standing.{pathBefore, wanted, drainBest, Standing}
+use Rattle.finalize.specs.Standing.{pathBefore, wanted, Standing}
 use Rattle.finalize.specs.Counting.{CutCountable, Counts, CutsetCounted, RowsCountable, CountOf, RowsCounted}
-use Rattle.finalize.proofs.Cut.{over-none, drain-asked, read-asked, bounded-any}
+use Rattle.finalize.proofs.Cut.{drain-asked, read-asked, bounded-any}
 use Rattle.finalize.proofs.Outcomes.{best-drained, exactly-drains, restricted-drains, exactly-rows, restricted-rows}
 use Rattle.finalize.proofs.Standing.{some-bounds-asked, some-cut-asked, bounds-done, after-bounds}
 

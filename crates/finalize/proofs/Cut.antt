@@ -12,9 +12,10 @@ use Rattle.diagram.specs.Node.{nodeAt}
 use Rattle.diagram.specs.Tables.{Diagram}
 use Rattle.diagram.specs.After4.{cutsetOf}
 use Rattle.diagram.specs.After6.{drainRows}
-use Rattle.layout.specs.Table.{wordsOf, over}
+use Rattle.layout.specs.Table.{over}
 use Rattle.layout.specs.Records.{recordTable}
 use Rattle.layout.specs.Rows.{nodeWords}
+use Rattle.layout.proofs.Records.{over-none}
 use Rattle.rows.specs.declared.NodeId.{NodeId}
 use Rattle.rows.specs.Access.{FieldRead}
 use Rattle.layers.specs.declared.Layers.{Layers}
@@ -32,10 +33,6 @@ use Rattle.cutset.specs.Whole.{kindOf, counting, Shaped, cutsetFrom, Bounded, D
 use Rattle.cutset.proofs.Whole.{settled-as, count-first, counted, list-kept}
 use Rattle.finalize.specs.declared.Given.{Given}
 use Rattle.finalize.specs.Standing.{pathBefore, wanted, Cuttable, CutsetDone}
-
-pub over-none : (rs : List ℕ) → over (recordTable []) rs ≡ rs
-unfolding over recordTable wordsOf
-over-none rs = refl
 
 -- nothing is drained
 pub none-answered : (room : ℕ) → answer room [] ≡ Records 0

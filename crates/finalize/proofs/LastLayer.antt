@@ -20,7 +20,7 @@ use Rattle.theorems.proofs.Move.{Move, move-later}
 use Rattle.theorems.proofs.Merge.{MergeMove, merging-keeps, merge-move-merged}
 use Rattle.theorems.proofs.Squash.{Way}
 use Rattle.theorems.proofs.Growth.{step-keeps, squash-keeps, Ended, through, died, grown-keeps}
-use Rattle.finish.proofs.Grown.{Ends}
+use Rattle.finish.proofs.Grown.{Ends, ends-more}
 
 -- the last exact layer ends at row n or before it
 abbrev pub LastEnds : LastExact → ℕ → Type 0
@@ -30,10 +30,6 @@ LastEnds (squashedAfter l) n = l .hi ≤ n
 pub record Ending (d : Diagram) : Type 0 where
   pub ends : Ends (d .layers) (length (d .nodes))
   pub last-ends : LastEnds (d .last) (length (d .nodes))
-
-ends-more : (ls : List Range) (n m : ℕ) → n ≤ m → Ends ls n → Ends ls m
-ends-more [] n m h e = tt
-ends-more (l ∷ ls) n m h e = (omega (arith, e .0), ends-more ls n m h (e .1))
 
 last-more : (l : LastExact) (n m : ℕ) → n ≤ m → LastEnds l n → LastEnds l m
 last-more unsquashed n m h e = tt

@@ -16,6 +16,7 @@ use Rattle.diagram.specs.After6.{outcome, drained}
 use Rattle.layout.specs.Table.{over}
 use Rattle.layout.specs.Rows.{nodeTable}
 use Rattle.layout.specs.Records.{recordTable}
+use Rattle.layout.proofs.Records.{over-none}
 use Rattle.branch.specs.State.{countsOf}
 use Rattle.layers.specs.declared.Layers.{Layers}
 use Rattle.layers.specs.declared.Last.{Last}
@@ -38,7 +39,7 @@ use Rattle.cutset.proofs.Commute.{bounded}
 use Rattle.cutset.proofs.Outcomes.{outcome-nodes}
 use Rattle.finalize.specs.declared.Given.{Given}
 use Rattle.finalize.specs.Standing.{pathBefore, wanted, drainBest, Cuttable, CutsetDone, Standing, Standable, RowsOf, RowsFinished}
-use Rattle.finalize.proofs.Cut.{over-none, none-answered, none-fits}
+use Rattle.finalize.proofs.Cut.{none-answered, none-fits}
 use Rattle.finalize.proofs.Outcomes.{best-drained, exactly-drains, restricted-drains, exactly-rows, restricted-rows}
 
 -- a mode that is relaxed or not
@@ -74,7 +75,7 @@ module _ (d : Diagram) (oldN oldE : List ℕ) (count : ℕ) (given : Given) (lay
   ranged : Steps.Ranged layers (length (d .nodes))
   ranged = ranged-of layers d (st .usable) (st .layers-are)
 
-  pub bounds-asked : Layered ns es layers
+  bounds-asked : Layered ns es layers
   bounds-asked = record { counts = countsOf d; sits = sits-of; ranged = ranged; sized = st .sized; few = st .few-layers }
 
   module _ (m : Mode) (us : List ℕ) (w : Rewritten sits-of (localBounds m d (d .nodes)) us) where
@@ -120,7 +121,7 @@ module _ (d : Diagram) (oldN oldE : List ℕ) (count : ℕ) (given : Given) (lay
     pub after-bounds : (m : Mode) → relaxed ≡ isRelaxing m → Bounded (wanted given 0) layers last (bounded m d) oldN oldE count us es rs
     after-bounds m q = bounded-stands m us (bounds-done m q)
 
-    pub cut-asked : (best : Best) → Within 0 count best → Cuttable count best given layers last us es rs
+    cut-asked : (best : Best) → Within 0 count best → Cuttable count best given layers last us es rs
     cut-asked best i =
         record {
           drainable = record { diagram = bounded (modeFor relaxed) d; oldN = oldN; oldE = oldE; bounded = after-bounds (modeFor relaxed) (mode-for relaxed); from-start = refl; sized = st .sized; layers-in = st .few-layers };
@@ -153,7 +154,7 @@ module _ (d : Diagram) (oldN oldE : List ℕ) (count : ℕ) (given : Given) (lay
             records-are = g .records-are ∙ ap (λ (l : List Record). over (recordTable (fitting (given .room) l)) rs) x;
           }
 
-      pub rows-done : (m : Mode) → relaxed ≡ isRelaxing m → rowOf best ≡ bestNode d → RowsOf (outcome m (kindOf kind) d) (pathBefore given) (given .room) oldN rs r ns′ rs′
+      rows-done : (m : Mode) → relaxed ≡ isRelaxing m → rowOf best ≡ bestNode d → RowsOf (outcome m (kindOf kind) d) (pathBefore given) (given .room) oldN rs r ns′ rs′
       rows-done exactly q e = idle-rows exactly q q (exactly-rows (kindOf kind) d) (exactly-drains (pathBefore given) (kindOf kind) d)
       rows-done restricted q e = idle-rows restricted q q (restricted-rows (kindOf kind) d) (restricted-drains (pathBefore given) (kindOf kind) d)
       rows-done relaxing q e = relaxed-rows q e

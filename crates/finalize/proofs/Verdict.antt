@@ -2,26 +2,21 @@
 use mathlib.Core.Path.{_≡_, refl, ap, _∙_}
 use mathlib.Core.Bool.{Bool, true, false, not, cond, _||_}
 use mathlib.Core.List.{List}
-use Prim.Native.Nat.{ℕ, _-_, _*_, _≤_}
+use Prim.Native.Nat.{ℕ, _-_}
 use native.Mathlib.Omega.{arith}
 use lib.ListN.{length}
 use Rattle.diagram.specs.Run.{Mode}
 use Rattle.diagram.specs.Tables.{LastExact, unsquashed, squashedAfter, Diagram, Found, rowsFrom, rowsOf, coming}
 use Rattle.diagram.specs.After1.{terminals, bestOf, bestNode, exactPath, bestExactNode}
 use Rattle.diagram.specs.After2.{neverSquashed, isExact}
-use Rattle.layout.specs.Rows.{nodeWords}
 use Rattle.layers.specs.declared.Last.{Last}
 use Rattle.layers.specs.Stored.{lastOf}
 use Rattle.finish.specs.declared.Best.{Best}
-use Rattle.finish.specs.declared.Best.the-variants as Answer
-use Rattle.finish.specs.Terminals.{rowOf, Within, BestFound}
+use Rattle.finish.specs.Terminals.{rowOf, BestFound}
 use Rattle.finish.specs.Walks.{Ranked, PathJudged}
 use Rattle.finish.specs.Bounds.{wasSquashed}
+use Rattle.finish.proofs.Terminals.{within-wider}
 use Rattle.finalize.specs.Judged.{BestExactFound, Judgeable, Judges}
-
-pub within-wider : (lo hi lo₁ hi₁ : ℕ) (b : Best) → lo₁ ≤ lo → hi ≤ hi₁ → Within lo hi b → Within lo₁ hi₁ b
-within-wider lo hi lo₁ hi₁ (Answer.Node n) p q w = (omega (arith, w .0), omega (arith, w .1))
-within-wider lo hi lo₁ hi₁ Answer.NoTerminal p q w = tt
 
 -- ---- the best exact node
 
@@ -33,10 +28,6 @@ exact-found t start count best walked b e f =
     record { does = λ ns old q l. rw e (f .does ns old q l); inside = λ w. f .inside }
 
 -- ---- what is asked of the tables
-
-pub judge-words : (start count : ℕ) (ns es : List ℕ) → Judgeable start count ns es → (start ≤ count) × (count * nodeWords ≤ length ns)
-judge-words start count ns es j =
-    (omega (arith, j .start-is, j .count-is, j .sits .start-in), omega (arith, j .count-is, j .sits .nodes-in))
 
 pub walk-asked : (start count : ℕ) (ns es : List ℕ) (best : Best) → Judgeable start count ns es → BestFound ns start count false best → Ranked ns es best
 walk-asked start count ns es best j f =

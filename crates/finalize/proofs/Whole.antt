@@ -30,6 +30,7 @@ use Rattle.cutset.specs.declared.Kind.{Kind}
 use Rattle.cutset.specs.declared.Drained.{Drained}
 use Rattle.cutset.specs.declared.Drained.the-variants.{Records}
 use Rattle.cutset.specs.Whole.{kindOf}
+use Rattle.finish.proofs.Terminals.{within-wider}
 use Rattle.finalize.specs.declared.Given.{Given}
 use Rattle.finalize.specs.declared.Judged.{Judged}
 use Rattle.finalize.specs.declared.Finished.{Finished}
@@ -39,7 +40,6 @@ use Rattle.finalize.specs.Standing.{pathBefore, Standing, Standable, Row
 use Rattle.finalize.specs.Counting.{RowsCountable, CountOf, RowsCounted}
 use Rattle.finalize.specs.Answers.{Roomy, Walkable, Answerable, AnswerOf, Answered}
 use Rattle.finalize.specs.Ended.{valueFrom, Tells, Ends, Finalized, EndsCounted, Counted}
-use Rattle.finalize.proofs.Verdict.{within-wider}
 use Rattle.finalize.proofs.Outcomes.{outcome-dressed, outcome-wired}
 use Rattle.finalize.proofs.Standing.{modeFor, mode-for, sits-of}
 use Rattle.finalize.proofs.Grown.{stands}

@@ -1,4 +1,4 @@
--- The same without a record list: the cutset is flagged and its records are counted, none is written.
+-- Local bounds and cutset without a record list: the cutset is flagged and its records are counted, none is written.
 use mathlib.Core.Path.{_≡_}
 use mathlib.Core.Bool.{Bool, true, false}
 use mathlib.Core.List.{List, []}

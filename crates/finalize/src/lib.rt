@@ -1,8 +1,7 @@
 // `_finalize` of clean.rs: a grown diagram's best node and best exact node, exactness, local bounds, cutset and drained records, with the values and paths that are answered.
 ghost use mathlib.Core.Path.{_≡_};
-ghost use mathlib.Core.Bool.{_||_};
 ghost use mathlib.Core.List.{[]};
-ghost use Prim.Native.Nat.{ℕ, _*_, _≤_};
+ghost use Prim.Native.Nat.{_*_, _≤_};
 ghost use lib.ListN.{length};
 ghost use Rattle.layout.specs.Rows.{nodeWords};
 ghost use Rattle.layers.specs.Stored.{Sized, lastOf};
@@ -63,12 +62,6 @@ fn was_squashed(last: Last) -> bool
     true
 }
 
-fn either(a: bool, b: bool) -> bool
-    ensures { λ r. ⌜ r ≡ (a || b) ⌝ }
-{
-    if a { true } else { b }
-}
-
 // Where the walk up the best path succeeded the best exact node is the best node; else it is the best of the exact terminals.
 fn best_exact_node(nodes: &[u64], start: usize, count: usize, best: Best, walked: bool) -> Best
     requires { ⌜ (start ≤ count) × (count * nodeWords ≤ length (now nodes)) ⌝ }
@@ -97,7 +90,7 @@ fn judge(
     let best_exact = best_exact_node(nodes, start, count, best, walked);
     let squashed = was_squashed(last);
     Judged {
-        exact: either(!squashed, walked),
+        exact: words::either(!squashed, walked),
         best: best,
         best_exact: best_exact,
     }
@@ -117,7 +110,9 @@ fn finalize_cutset(
     relaxed: bool,
 ) -> Drained
     requires { ⌜ Cuttable count best given layers last (now nodes) (now edges) (now records) ⌝ }
-    ensures { λ r. ⌜ CutsetDone count best given layers kind last relaxed (now (nodes .entry)) (now (edges .entry)) (now (records .entry)) r (now (nodes .exit)) (now (records .exit)) ⌝ }
+    ensures { λ r.
+        ⌜ CutsetDone count best given layers kind last relaxed (now (nodes .entry)) (now (edges .entry)) (now (records .entry)) r (now (nodes .exit))
+        (now (records .exit)) ⌝ }
 {
     if !relaxed {
         return Drained::Records(0);
@@ -159,7 +154,9 @@ fn finish_rows(
     relaxed: bool,
 ) -> Drained
     requires { ⌜ Standable count best given layers last (now nodes) (now edges) (now records) ⌝ }
-    ensures { λ r. ⌜ RowsFinished count best given layers kind last relaxed (now (nodes .entry)) (now (edges .entry)) (now (records .entry)) r (now (nodes .exit)) (now (records .exit)) ⌝ }
+    ensures { λ r.
+        ⌜ RowsFinished count best given layers kind last relaxed (now (nodes .entry)) (now (edges .entry)) (now (records .entry)) r (now (nodes .exit))
+        (now (records .exit)) ⌝ }
 {
     let squashed = was_squashed(last);
     finish::compute_local_bounds(nodes, edges, layers, squashed, relaxed);
@@ -187,7 +184,8 @@ fn count_flagged(
     last: Last,
 ) -> usize
     requires { ⌜ Tracing (Shaped layers last) (counting w) 0 (now nodes) (now edges) [] × (Sized layers × (layers .count ≤ 65)) ⌝ }
-    ensures { λ n. ⌜ Traced (Shaped layers last) (cutsetFrom (kindOf kind)) (counting w) 0 (now (nodes .entry)) (now (edges .entry)) [] n (now (nodes .exit)) [] ⌝ }
+    ensures { λ n.
+        ⌜ Traced (Shaped layers last) (cutsetFrom (kindOf kind)) (counting w) 0 (now (nodes .entry)) (now (edges .entry)) [] n (now (nodes .exit)) [] ⌝ }
 {
     let mut none = [0u64; 1];
     cutset::flag_cutset(nodes, edges, &mut none, w, layers, kind, last)
@@ -309,7 +307,9 @@ pub fn finalize(
     given: Given,
 ) -> Finished
     requires { ⌜ Finalizable k start layers last given (now nodes) (now edges) (now records) ⌝ }
-    ensures { λ f. ⌜ Finalized k start layers last relaxed kind given (now (nodes .entry)) (now (edges .entry)) (now (records .entry)) f (now (nodes .exit)) (now (records .exit)) ⌝ }
+    ensures { λ f.
+        ⌜ Finalized k start layers last relaxed kind given (now (nodes .entry)) (now (edges .entry)) (now (records .entry)) f (now (nodes .exit))
+        (now (records .exit)) ⌝ }
 {
     let judged = judge(nodes, edges, start, k.nodes, last, relaxed);
     let best = judged.best;

@@ -2,7 +2,7 @@
 use mathlib.Core.Path.{_≡_, refl, sym, subst, _∙_}
 use mathlib.Core.Bool.{Bool, true, false}
 use mathlib.Core.List.{List, [], _∷_, _++_}
-use Prim.Native.Nat.{ℕ, zero, suc, _+_, _-_, _≤_, _<_}
+use Prim.Native.Nat.{ℕ, zero, suc, _-_, _≤_, _<_}
 use native.Mathlib.Decide.{ℕ-discrete}
 use native.Mathlib.Omega.{arith}
 use lib.ListN.{length, getD, drop, length-set, length-append, length-drop}
@@ -32,7 +32,7 @@ pub record Usable (d : Diagram) : Type 0 where
   pub ends : Ends (d .layers) (length (d .nodes))
   pub start-in : d .start ≤ length (d .nodes)
 
-ends-more : (ls : List Range) (n m : ℕ) → n ≤ m → Ends ls n → Ends ls m
+pub ends-more : (ls : List Range) (n m : ℕ) → n ≤ m → Ends ls n → Ends ls m
 ends-more [] n m h e = tt
 ends-more (l ∷ ls) n m h e = (omega (arith, e .0), ends-more ls n m h (e .1))
 

@@ -19,7 +19,7 @@ use Rattle.finish.proofs.Walks.{node-is, edge-is, parent-of}
 
 -- ---- one byte more
 
-pub pushed : (p : List ℕ) (b : ℕ) → length p < pathRoom → set (padded p) (length p) b ≡ padded (p ++ (b ∷ []))
+pushed : (p : List ℕ) (b : ℕ) → length p < pathRoom → set (padded p) (length p) b ≡ padded (p ++ (b ∷ []))
 unfolding padded
 pushed p b h =
     let l : length (p ++ (b ∷ [])) ≡ suc (length p) = simp length-append (omega arith) in
@@ -47,7 +47,7 @@ pub record Climbed (ns es : List ℕ) (r : ℕ) (recordPath bytes : List ℕ) (l
   pub left : (k : Counts) (h : Sits k ns es) → r < length (h .diagram .nodes) → done ++ upFrom (length (h .diagram .nodes)) (h .diagram) y ≡ pathTo recordPath (h .diagram) r
 
 -- the places that were kept are the record's path still
-pub kept-are : (path bytes : List ℕ) (depth : ℕ) → depth ≤ length path → bytes ≡ padded (take depth path) → take depth bytes ≡ take depth path
+kept-are : (path bytes : List ℕ) (depth : ℕ) → depth ≤ length path → bytes ≡ padded (take depth path) → take depth bytes ≡ take depth path
 unfolding padded
 kept-are path bytes depth h e =
     ap (take depth) e ∙ take-at (take depth path) (replicate (pathRoom - length (take depth path)) 0) depth (length-take-le depth path h)

@@ -1,67 +1,22 @@
--- Bottom values go up: the inbound edges of a row by their next numbers, the rows of a layer, the layers from the newest on.
+-- Bottom values go up from one row: its parents, over its inbound edges by their next numbers.
 use mathlib.Core.Path.{_≡_, refl, sym, ap, subst, _∙_}
 use mathlib.Core.Bool.{Bool, true, false, cond}
-use mathlib.Core.List.{List, [], _∷_}
-use Prim.Native.Nat.{ℕ, zero, suc, _+_, _-_, _*_, _<_, _≤_}
+use mathlib.Core.List.{List, []}
+use Prim.Native.Nat.{ℕ, suc, _+_, _-_, _*_, _<_, _≤_}
 use native.Mathlib.Omega.{arith}
-use lib.Dec.{eqb}
 use lib.ListN.{length}
-use borrow.Author.Tests.{eqb-true}
 use Rattle.words.specs.I64.{mid, satAdd}
-use Rattle.knapsack.proofs.Cases.{by-test}
 use Rattle.diagram.specs.Node.{Node, Edge, nodeAt, edgeAt, update}
 use Rattle.diagram.specs.Tables.{inboundBelow, inbound}
 use Rattle.diagram.specs.After5.{raise, raiseParents}
 use Rattle.layout.specs.Rows.{edgeWords, nodeWords}
 use Rattle.rows.specs.Access.{NodeRead, EdgeRead}
 use Rattle.branch.specs.declared.Counts.{Counts}
-use Rattle.theorems.proofs.Links.{newestBelow}
+use Rattle.theorems.proofs.Links.{newestBelow, newest-low, NewestIs, newest-found, none-inbound}
 use Rattle.finish.specs.Sits.{Sits, Row}
 use Rattle.finish.specs.Bounds.{RowChanged, Rewritten, Newest, ParentsRaised, RowRaised}
 use Rattle.finish.proofs.Walks.{node-is, edge-is, edge-words}
 use Rattle.finish.proofs.Rewriting.{nodes-within, unwritten, raise-links, row-written}
-
--- ---- the inbound edges from a link on
-
-pub none-left : (es : List Edge) (r p : ℕ) → newestBelow p es r ≡ 0 → inboundBelow p es r ≡ []
-unfolding newestBelow inboundBelow
-none-left es r zero q = refl
-none-left es r (suc e) q =
-    by-test (λ b. cond b (suc e) (newestBelow e es r) ≡ 0 → cond b (e ∷ inboundBelow e es r) (inboundBelow e es r) ≡ []) (eqb (edgeAt es e .to) r)
-    (λ _ z. absurd (omega arith))
-    (λ _ z. none-left es r e z)
-    q
-
--- edge e is the newest of the first p edges that end in row r
-pub record NewestIs (es : List Edge) (r p e : ℕ) : Type 0 where
-  pub below : e < p
-  pub ends : edgeAt es e .to ≡ r
-  pub inbound-are : inboundBelow p es r ≡ e ∷ inboundBelow e es r
-
-pub newest-is : (es : List Edge) (r p e : ℕ) → newestBelow p es r ≡ suc e → NewestIs es r p e
-unfolding newestBelow inboundBelow
-newest-is es r zero e q = absurd (omega arith)
-newest-is es r (suc p) e q =
-    by-test (λ b. eqb (edgeAt es p .to) r ≡ b → cond b (suc p) (newestBelow p es r) ≡ suc e → NewestIs es r (suc p) e) (eqb (edgeAt es p .to) r)
-    (λ _ z k. let y : p ≡ e = omega arith in
-    record {
-      below = omega arith;
-      ends = ap (λ (i : ℕ). edgeAt es i .to) (sym y) ∙ eqb-true (edgeAt es p .to) r z;
-      inbound-are = ap (λ (a : Bool). cond a (p ∷ inboundBelow p es r) (inboundBelow p es r)) z ∙ ap (λ (i : ℕ). i ∷ inboundBelow i es r) y;
-    })
-    (λ _ z k. let n = newest-is es r p e k in
-    record {
-      below = omega (arith, n .below);
-      ends = n .ends;
-      inbound-are = ap (λ (a : Bool). cond a (p ∷ inboundBelow p es r) (inboundBelow p es r)) z ∙ n .inbound-are;
-    })
-    refl q
-
-newest-low : (es : List Edge) (r p : ℕ) → newestBelow p es r ≤ p
-unfolding newestBelow
-newest-low es r zero = omega arith
-newest-low es r (suc p) =
-    by-test (λ b. cond b (suc p) (newestBelow p es r) ≤ suc p) (eqb (edgeAt es p .to) r) (λ _. omega arith) (λ _. omega (arith, newest-low es r p))
 
 -- ---- the parents of a row
 
@@ -87,16 +42,16 @@ raise-none own first ns es =
 
 -- the edge at a link
 pub record AtLink {k : Counts} {ns es : List ℕ} (h : Sits k ns es) (own r link : ℕ) (us : List ℕ) (e : Edge) (left : Left h own r link us) : Type 0 where
-  pub newest : NewestIs (h .diagram .edges) r (left .edges) (link - 1)
+  pub newest : NewestIs (left .edges) (h .diagram .edges) r (link - 1)
   pub edge-in : link - 1 < length (h .diagram .edges)
   pub edge-is : e ≡ edgeAt (h .diagram .edges) (link - 1)
   pub from-in : e .from < length (left .rows)
   pub next-is : e .next ≡ newestBelow (link - 1) (h .diagram .edges) r
 
-link-edge : {k : Counts} {ns es : List ℕ} (h : Sits k ns es) (own r link : ℕ) (us : List ℕ) (left : Left h own r link us) → 0 < link → NewestIs (h .diagram .edges) r (left .edges) (link - 1)
+link-edge : {k : Counts} {ns es : List ℕ} (h : Sits k ns es) (own r link : ℕ) (us : List ℕ) (left : Left h own r link us) → 0 < link → NewestIs (left .edges) (h .diagram .edges) r (link - 1)
 link-edge h own r link us left z =
     let q : newestBelow (left .edges) (h .diagram .edges) r ≡ suc (link - 1) = omega (arith, left .link-is) in
-    newest-is (h .diagram .edges) r (left .edges) (link - 1) q
+    newest-found (left .edges) (h .diagram .edges) r (link - 1) q
 
 at-link : {k : Counts} {ns es : List ℕ} (h : Sits k ns es) (own r link : ℕ) (us : List ℕ) (e : Edge) (left : Left h own r link us) → 0 < link → EdgeRead es (link - 1) e → AtLink h own r link us e left
 at-link h own r link us e left z read =
@@ -132,7 +87,7 @@ raise-one own first ns es link us vs e b z read q c g =
             rest =
                 ap (λ (v : ℕ). raiseParents E own (inboundBelow (link - 1) E r) (update (raise v) (left .rows) (e .from))) q
                 ∙ ap (λ (y : Edge). raiseParents E own (inboundBelow (link - 1) E r) (update (raise (satAdd own (mid + y .cost))) (left .rows) (y .from))) (a .edge-is)
-                ∙ ap (λ (l : List ℕ). raiseParents E own l (left .rows)) (sym (a .newest .inbound-are))
+                ∙ ap (λ (l : List ℕ). raiseParents E own l (left .rows)) (sym (a .newest .splits))
                 ∙ left .rest;
           };
     }
@@ -144,7 +99,7 @@ raise-all own first ns es link us z g =
       does = λ k h r l f.
           let left = g .does k h r l f in
           let E = h .diagram .edges in
-          let n : inboundBelow (left .edges) E r ≡ [] = none-left E r (left .edges) (sym (left .link-is) ∙ z) in
+          let n : inboundBelow (left .edges) E r ≡ [] = none-inbound (left .edges) E r (sym (left .link-is) ∙ z) in
           let q : left .rows ≡ raiseParents E own (inbound E r) (h .diagram .nodes) = ap (λ (l : List ℕ). raiseParents E own l (left .rows)) (sym n) ∙ left .rest in
           subst (λ (rows : List Node). Rewritten h rows us) q (left .written);
     }
@@ -168,7 +123,7 @@ turn-at own link₀ ns es link us e p g z read =
     let a = at-link h own (p .row) link us e left z read in
     record {
       parent-in = omega (arith, a .from-in, nodes-within (left .rows) (h .oldN) us (left .written .nodes-are));
-      falls = omega (arith, a .next-is, newest-low (h .diagram .edges) (p .row) (link - 1));
+      falls = omega (arith, a .next-is, newest-low (link - 1) (h .diagram .edges) (p .row));
     }
 
 -- ---- a row

@@ -6,27 +6,20 @@ use native.Mathlib.Omega.{arith}
 use lib.ListN.{length, set, length-append, length-set}
 use Rattle.words.specs.I64.{mid}
 use Rattle.diagram.specs.Node.{Node, Edge, nodeAt, edgeAt, update, markedWith}
-use Rattle.diagram.specs.Tables.{Diagram, withNodes, rowsFrom}
+use Rattle.diagram.specs.Tables.{withNodes, rowsFrom}
 use Rattle.diagram.specs.After5.{groundRows, raise}
 use Rattle.layout.specs.Table.{over}
 use Rattle.layout.specs.Rows.{nodeWords, edgeWords, encodeNode, encodeEdge, nodeTable, edgeTable}
 use Rattle.layout.proofs.Table.{length-words}
+use Rattle.layout.proofs.Rows.{node-width, edge-width}
 use Rattle.rows.specs.Access.{NodeRead, NodeWritten}
 use Rattle.branch.specs.declared.Counts.{Counts}
 use Rattle.branch.specs.State.{countsOf, Held}
-use Rattle.theorems.proofs.Links.{Wired, SameLinks, update-wired}
+use Rattle.theorems.proofs.Links.{SameLinks, update-wired}
 use Rattle.finish.specs.Sits.{Sits}
 use Rattle.finish.specs.Bounds.{RowChanged, LayerGrounded, Rewritten}
 
 -- ---- the words of the rows lie within their table
-
-node-width : (n : Node) → length (encodeNode n) ≡ nodeWords
-unfolding encodeNode
-node-width n = refl
-
-edge-width : (e : Edge) → length (encodeEdge e) ≡ edgeWords
-unfolding encodeEdge
-edge-width e = refl
 
 pub nodes-within : (rows : List Node) (old us : List ℕ) → us ≡ over (nodeTable rows) old → length rows * nodeWords ≤ length us
 unfolding over nodeTable
@@ -35,22 +28,6 @@ nodes-within rows old us e = omega (arith, simp length-append at (ap (length {A 
 pub edges-within : (rows : List Edge) (old us : List ℕ) → us ≡ over (edgeTable rows) old → length rows * edgeWords ≤ length us
 unfolding over edgeTable
 edges-within rows old us e = omega (arith, simp length-append at (ap (length {A = ℕ}) e), length-words encodeEdge edgeWords edge-width rows)
-
--- Tables that hold a wired diagram are those that the steps after the last layer ask for.
-pub sits-in : (k : Counts) (ns es : List ℕ) (d : Diagram) (oldN oldE : List ℕ) → Held d oldN oldE ns es → k ≡ countsOf d → Wired d → d .start ≤ length (d .nodes) → ((e : ℕ) → e < length (d .edges) → edgeAt (d .edges) e .decision < 256) → Sits k ns es
-sits-in k ns es d oldN oldE held counts wired start bytes =
-    record {
-      diagram = d;
-      oldN = oldN;
-      oldE = oldE;
-      held = held;
-      counts = counts;
-      wired = wired;
-      start-in = start;
-      nodes-in = nodes-within (d .nodes) oldN ns (held .nodes-are);
-      edges-in = edges-within (d .edges) oldE es (held .edges-are);
-      bytes = bytes;
-    }
 
 -- ---- after a rewriting
 

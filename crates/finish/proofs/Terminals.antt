@@ -98,7 +98,7 @@ none-yet t count e =
       inside = tt;
     }
 
-within-wider : (lo hi lo₁ hi₁ : ℕ) (b : Best) → lo₁ ≤ lo → hi ≤ hi₁ → Within lo hi b → Within lo₁ hi₁ b
+pub within-wider : (lo hi lo₁ hi₁ : ℕ) (b : Best) → lo₁ ≤ lo → hi ≤ hi₁ → Within lo hi b → Within lo₁ hi₁ b
 within-wider lo hi lo₁ hi₁ (Node n) p q w = (omega (arith, w .0), omega (arith, w .1))
 within-wider lo hi lo₁ hi₁ NoTerminal p q w = tt
 

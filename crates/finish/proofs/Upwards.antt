@@ -142,7 +142,7 @@ ground-wired d from (suc n) ns l s w =
     ground-wired d (suc from) n (update (markedWith mid) ns from) (λ r b. omega (arith, l (suc r) (omega arith))) (omega arith)
     (update-wired (markedWith mid) (withNodes d ns) from ground-links s i w)
 
-pub grounded : {k : Counts} {ns es : List ℕ} (h : Sits k ns es) (us : List ℕ) (from to : ℕ) → to ≤ length (h .diagram .nodes) → LayerGrounded from to ns us → Rewritten h (groundRows (rowsFrom from (to - from)) (h .diagram .nodes)) us
+grounded : {k : Counts} {ns es : List ℕ} (h : Sits k ns es) (us : List ℕ) (from to : ℕ) → to ≤ length (h .diagram .nodes) → LayerGrounded from to ns us → Rewritten h (groundRows (rowsFrom from (to - from)) (h .diagram .nodes)) us
 unfolding withNodes
 grounded h us from to l g =
     record {
@@ -240,14 +240,3 @@ layered-still l j ns es us p n g =
       sized = p .sized;
       few = p .few;
     }
-
--- The finished run computes them from the rows that the cutset left: the diagram's own rows don't matter.
-pub bounds-of : (m : Mode) (d : Diagram) (ns : List Node) → localBounds m (withNodes d ns) (withNodes d ns .nodes) ≡ localBounds m d ns
-unfolding withNodes localBounds boundsIf
-bounds-of exactly d ns = refl
-bounds-of restricted d ns = refl
-bounds-of relaxing d ns = go (d .last)
-  where
-    go : (x : LastExact) → boundsIf x (withNodes d ns) ns ≡ boundsIf x d ns
-    go unsquashed = refl
-    go (squashedAfter l) = refl

@@ -1,4 +1,4 @@
--- A finished diagram in the tables: what the steps after the last layer ask of the tables, and what those that write rows leave.
+-- A grown diagram in the tables: what the steps after the last layer ask of them.
 use mathlib.Core.Path.{_≡_}
 use mathlib.Core.List.{List}
 use Prim.Native.Nat.{ℕ, _*_, _<_, _≤_}

@@ -1,10 +1,10 @@
 -- What the walk up the best path promises.
 use mathlib.Core.Path.{_≡_}
-use mathlib.Core.Bool.{Bool, true, false}
+use mathlib.Core.Bool.{Bool}
 use mathlib.Core.List.{List}
 use Prim.Native.Nat.{ℕ, _+_, _<_, _≤_}
 use lib.ListN.{length}
-use Rattle.diagram.specs.Run.{Mode, exactly, restricted, relaxing, isRelaxing}
+use Rattle.diagram.specs.Run.{Mode, isRelaxing}
 use Rattle.diagram.specs.Tables.{at}
 use Rattle.diagram.specs.After1.{bestNode, walkUp, exactPath}
 use Rattle.branch.specs.declared.Counts.{Counts}

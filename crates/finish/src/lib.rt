@@ -1,11 +1,10 @@
 // What comes after the last layer in clean.rs: the best node and its walk up, the best path, and the local bounds.
 ghost use mathlib.Core.Path.{_≡_};
 ghost use mathlib.Core.Bool.{true, cond, _&&_, _||_};
-ghost use mathlib.Core.List.{List};
-ghost use Prim.Native.Nat.{ℕ, _+_, _*_, _<_, _≤_, max};
+ghost use Prim.Native.Nat.{_+_, _*_, _<_, _≤_};
 ghost use lib.Dec.{ltb, leb, eqb};
 ghost use lib.ListN.{length, take};
-ghost use Rattle.words.specs.I64.{mid, satAdd};
+ghost use Rattle.words.specs.I64.{mid};
 ghost use Rattle.diagram.specs.Node.{markedWith};
 ghost use Rattle.diagram.specs.Record.{padded};
 ghost use Rattle.diagram.specs.After5.{raise};
@@ -34,18 +33,6 @@ pub struct Path {
     pub len: usize,
 }
 
-fn both(a: bool, b: bool) -> bool
-    ensures { λ r. ⌜ r ≡ (a && b) ⌝ }
-{
-    if a { b } else { false }
-}
-
-fn either(a: bool, b: bool) -> bool
-    ensures { λ r. ⌜ r ≡ (a || b) ⌝ }
-{
-    if a { true } else { b }
-}
-
 // Whether a row of that exactness is among those that are asked for.
 fn asked_for(exact_only: bool, exact: bool) -> bool
     ensures { λ r. ⌜ r ≡ cond «exact_only» exact true ⌝ }
@@ -60,7 +47,7 @@ fn stands_first(a: Node, b: Node) -> bool
     let more = b.value < a.value;
     let same = b.value == a.value;
     let wider = b.capacity <= a.capacity;
-    either(more, both(same, wider))
+    words::either(more, words::both(same, wider))
 }
 
 // The better one of row r and the best of the rows behind it.
@@ -173,12 +160,6 @@ pub fn best_path(nodes: &[u64], edges: &[u64], n: NodeId, path: [u8; 64], depth:
     }
 }
 
-fn larger(a: u64, b: u64) -> u64
-    ensures { λ r. ⌜ r ≡ max a b ⌝ }
-{
-    if a < b { b } else { a }
-}
-
 // A mark, with that bottom value.
 fn marked_with(n: Node, bottom: u64) -> Node
     ensures { λ r. ⌜ nodeOf r ≡ markedWith bottom (nodeOf n) ⌝ }
@@ -201,13 +182,13 @@ fn marked_with(n: Node, bottom: u64) -> Node
     }
 }
 
-// A row of the last stored layer gets 0, which stands as 2^63, and a mark.
+// A row of the last stored layer gets 0 and a mark.
 fn ground_row(nodes: &mut [u64], r: NodeId)
     requires { ⌜ r .0 * nodeWords + nodeWords ≤ length (now nodes) ⌝ }
     ensures { λ _. ⌜ RowChanged (markedWith mid) (r .0) (now (nodes .entry)) (now (nodes .exit)) ⌝ }
 {
     let n = rows::read_node(nodes, r);
-    rows::write_node(nodes, r, marked_with(n, 9223372036854775808));
+    rows::write_node(nodes, r, marked_with(n, words::MID));
 }
 
 // The rows of the last stored layer.
@@ -228,19 +209,8 @@ fn raise_parent(nodes: &mut [u64], r: NodeId, bottom: u64)
     ensures { λ _. ⌜ RowChanged (raise bottom) (r .0) (now (nodes .entry)) (now (nodes .exit)) ⌝ }
 {
     let n = rows::read_node(nodes, r);
-    let raised = larger(n.bottom, bottom);
+    let raised = words::larger(n.bottom, bottom);
     rows::write_node(nodes, r, marked_with(n, raised));
-}
-
-// value + cost, at most i64 maximum, as words
-fn plus_cost(value: u64, cost: u64) -> u64
-    ensures { λ r. ⌜ r ≡ satAdd value (mid + cost) ⌝ }
-{
-    if 18446744073709551615 - value < cost {
-        18446744073709551615
-    } else {
-        value + cost
-    }
 }
 
 // The parents over the inbound edges of a row, from its newest edge along the next numbers, each raised to the row's own bottom
@@ -253,7 +223,7 @@ fn raise_parents(nodes: &mut [u64], edges: &[u64], own: u64, newest: Link)
     while 0 < link {
         let edge = rows::read_edge(edges, EdgeId((link - 1) as usize));
         let from = edge.from;
-        raise_parent(nodes, from, plus_cost(own, edge.cost));
+        raise_parent(nodes, from, words::handed(own, edge.cost));
         link = edge.next.0;
     }
 }
@@ -309,7 +279,7 @@ pub fn compute_local_bounds(
     requires { ⌜ Layered (now nodes) (now edges) layers ⌝ }
     ensures { λ _. ⌜ BoundsComputed layers squashed relaxed (now (nodes .entry)) (now (edges .entry)) (now (nodes .exit)) ⌝ }
 {
-    if !both(relaxed, squashed) {
+    if !words::both(relaxed, squashed) {
         return;
     }
     let count = layers.count;

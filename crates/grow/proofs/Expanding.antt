@@ -19,10 +19,10 @@ use Rattle.branch.specs.declared.Rooms.{Rooms}
 use Rattle.branch.specs.declared.Step.{Step}
 use Rattle.expand.specs.State.{Layer, AllExpanded}
 use Rattle.grow.specs.Growing.{Shape, Reached}
-use Rattle.grow.specs.Turns.{Squared, LayerExpanded}
+use Rattle.grow.specs.Turns.{SquashedLayer, LayerExpanded}
 
 module _ (weights profits rows : List ℕ) (start : ℕ) (k : Counts) (rooms : Rooms) (depth lower : ℕ) (layers : Layers) (last : Last) (ns es : List ℕ) where
-  module _ (s : Settings) (d : Diagram) (oldN oldE : List ℕ) (item : Item) (rest : List Item) (q : Squared weights profits rows start k rooms depth lower layers last ns es s d oldN oldE item rest) where
+  module _ (s : Settings) (d : Diagram) (oldN oldE : List ℕ) (item : Item) (rest : List Item) (q : SquashedLayer weights profits rows start k rooms depth lower layers last ns es s d oldN oldE item rest) where
     counted : k .nodes ≡ length (d .nodes)
     counted = ap (λ (c : Counts). c .nodes) (q .stands .counts-are)
 

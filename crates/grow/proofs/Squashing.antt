@@ -55,13 +55,13 @@ module _ (s : Settings) (d : Diagram) (oldN oldE : List ℕ) (start : ℕ) (k : 
   within-of = within-table ns (d .nodes) oldN (take count list) (g .held .nodes-are) rows-below
 
   module _ (list₁ : List ℕ) (did : Sorted ns bySquash count list list₁) where
-    pub in-order : take count list₁ ≡ sortBy (bySquash (d .nodes)) (take count list)
+    in-order : take count list₁ ≡ sortBy (bySquash (d .nodes)) (take count list)
     in-order = did .is-sorted (d .nodes) oldN (g .held .nodes-are) rows-below
 
     was-there : (r : ℕ) → List·Memᴰ r (take count list₁) → List·Memᴰ r (take count list)
     was-there r m = perm-mem (sort-perm (bySquash (d .nodes)) (take count list)) (subst (λ (l : List ℕ). List·Memᴰ r l) in-order m)
 
-    pub squashes-in-order : Squashes s d oldN oldE start k rooms count list₁ ns es
+    squashes-in-order : Squashes s d oldN oldE start k rooms count list₁ ns es
     squashes-in-order =
         record {
           stands = g .stands;

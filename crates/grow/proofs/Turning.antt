@@ -1,6 +1,6 @@
 -- One layer's turn: from the run whose layer comes to the run after its step.
 use mathlib.Core.Path.{_≡_, refl, sym, ap, subst, _∙_}
-use mathlib.Core.Bool.{Bool, true, false, cond, _&&_}
+use mathlib.Core.Bool.{Bool, true, false, cond}
 use mathlib.Core.List.{List, [], _∷_, List·Memᴰ, List·Memᴰ·head, List·Memᴰ·tail}
 use Prim.Native.Nat.{ℕ, zero, suc, _+_, _-_, _*_, _<_, _≤_}
 use native.Mathlib.Omega.{arith}
@@ -17,6 +17,7 @@ use Rattle.diagram.specs.Rule2.{ordered, expandSquashed, layerStep}
 use Rattle.diagram.specs.Rule5.{nameLast, withLast, squashIf, squash}
 use Rattle.diagram.specs.Rule6.{Squashed, layer, halted}
 use Rattle.layout.specs.Rows.{nodeWords}
+use Rattle.theorems.proofs.Bool.{and-true}
 use Rattle.theorems.proofs.Holds.{SquashHolds, settled, halts}
 use Rattle.theorems.proofs.Sort.{ordered-length, ordered-in}
 use Rattle.theorems.proofs.Squash.{Settled, Way, squash-settled}
@@ -37,7 +38,7 @@ use Rattle.grow.specs.declared.Task.{Task}
 use Rattle.grow.specs.declared.Growth.{Growth}
 use Rattle.grow.specs.Told.{modeOf, settingsOf}
 use Rattle.grow.specs.Growing.{tooWide, squashWide, Grew}
-use Rattle.grow.specs.Turns.{LayerOrdered, IfSquashed, IfSquashable, Expandable, Squared, LayerExpanded, Stage, Turned}
+use Rattle.grow.specs.Turns.{LayerOrdered, IfSquashed, IfSquashable, Expandable, SquashedLayer, LayerExpanded, Stage, Turned}
 use Rattle.grow.proofs.Squashing.{below-all, squash-law}
 
 -- ---- small facts
@@ -57,16 +58,12 @@ place-mem [] j h = absurd (omega arith)
 place-mem (r ∷ rows) zero h = List·Memᴰ·head refl
 place-mem (r ∷ rows) (suc j) h = List·Memᴰ·tail (place-mem rows j (omega arith))
 
-and-left : (a b : Bool) → (a && b) ≡ true → a ≡ true
-and-left true b e = refl
-and-left false b e = e
-
 -- only a layer of more rows than the width is too wide
 wide-more : (m : Def.Mode) (width count layers : ℕ) → tooWide m width count layers ≡ true → width < count
 unfolding tooWide
 wide-more exactly width count layers e = let z : _≡_ {A = ℕ} 0 1 = cc in absurd (omega arith)
 wide-more restricted width count layers e = ltb-true width count e
-wide-more relaxing width count layers e = ltb-true width count (and-left (ltb width count) (ltb 1 layers) e)
+wide-more relaxing width count layers e = ltb-true width count (and-true (ltb width count) (ltb 1 layers) e)
 
 settled-inv : {P : Diagram → List ℕ → Type 0} {d : Diagram} {l : List ℕ} → SquashHolds P (layer d l) → P d l
 settled-inv (settled p) = p
@@ -191,7 +188,7 @@ module _ (weights profits : List ℕ) (t : Task) (r : Record) (oldN oldE : List 
         done = rw squash-is (did .does (settingsOf t) d oldN oldE refl squashes)
 
         -- a squash that is refused ends the run
-        pub turn-stopped : (n : ℕ) (c : Counts) → step ≡ Stopped n c → (item : Item) (rest : List Item) → Grew (layerStep (settingsOf t) (item ∷ rest) item depth d) oldN oldE (record { step = step; start = g .start; layers = g .layers; last = g .last }) ns′ es′
+        turn-stopped : (n : ℕ) (c : Counts) → step ≡ Stopped n c → (item : Item) (rest : List Item) → Grew (layerStep (settingsOf t) (item ∷ rest) item depth d) oldN oldE (record { step = step; start = g .start; layers = g .layers; last = g .last }) ns′ es′
         unfolding layerStep expandSquashed
         turn-stopped n c e item rest = stays (squash (modeOf (t .mode)) (settingsOf t) (ordered d) d) done
           where
@@ -247,8 +244,8 @@ module _ (weights profits : List ℕ) (t : Task) (r : Record) (oldN oldE : List 
                 }
 
             module _ (named : Last) (n : lastOf named ≡ cond wide (nameLast (lastOf (g .last)) (stored (g .layers))) (lastOf (g .last))) (item : Item) (rest : List Item) (q : drop depth (itemsOf weights profits) ≡ item ∷ rest) where
-              squared : Squared weights profits (take left list′) (g .start) more (t .rooms) depth (t .lower) (g .layers) named ns′ es′ (settingsOf t) (onward .after) oldN oldE item rest
-              squared =
+              squashed-layer : SquashedLayer weights profits (take left list′) (g .start) more (t .rooms) depth (t .lower) (g .layers) named ns′ es′ (settingsOf t) (onward .after) oldN oldE item rest
+              squashed-layer =
                   record {
                     stands = after-stands;
                     held = onward .held;
@@ -264,11 +261,11 @@ module _ (weights profits : List ℕ) (t : Task) (r : Record) (oldN oldE : List 
                     rows-deep = rw (← left-rows) (λ j h. let v = place-mem (take (cond wide (t .width) (k .nodes - g .start)) list′) j h in onward .settles .deps (getD (take (cond wide (t .width) (k .nodes - g .start)) list′) j 0) (onward .settles .within _ v .0) (onward .settles .within _ v .1));
                   }
 
-              pub turn-expanded : (g′ : Growth) (ns″ es″ : List ℕ) → LayerExpanded weights profits (take left list′) (g .start) more (t .rooms) depth (t .lower) (g .layers) named ns′ es′ g′ ns″ es″ → Grew (layerStep (settingsOf t) (item ∷ rest) item depth d) oldN oldE g′ ns″ es″
+              turn-expanded : (g′ : Growth) (ns″ es″ : List ℕ) → LayerExpanded weights profits (take left list′) (g .start) more (t .rooms) depth (t .lower) (g .layers) named ns′ es′ g′ ns″ es″ → Grew (layerStep (settingsOf t) (item ∷ rest) item depth d) oldN oldE g′ ns″ es″
               unfolding layerStep expandSquashed
               turn-expanded g′ ns″ es″ did′ =
                   let e = onward .result-is ∙ ap (layer (onward .after)) left-rows in
-                  subst (λ (x : Squashed). Grew (expandSquashed x (settingsOf t) (item ∷ rest) item depth) oldN oldE g′ ns″ es″) (sym e) (did′ .does (settingsOf t) (onward .after) oldN oldE item rest squared)
+                  subst (λ (x : Squashed). Grew (expandSquashed x (settingsOf t) (item ∷ rest) item depth) oldN oldE g′ ns″ es″) (sym e) (did′ .does (settingsOf t) (onward .after) oldN oldE item rest squashed-layer)
 
 -- ---- the same as the code's promise
 

@@ -62,7 +62,7 @@ pub record Expandable (weights profits : List ℕ) (count : ℕ) (k : Counts) (r
   pub few : layers .count < 65
 
 -- the squashed layer that is stored and expanded: the diagram it is in, and the depth of its rows
-pub record Squared (weights profits rows : List ℕ) (start : ℕ) (k : Counts) (rooms : Rooms) (depth lower : ℕ) (layers : Layers) (last : Last) (ns es : List ℕ) (s : Settings) (d : Diagram) (oldN oldE : List ℕ) (item : Item) (rest : List Item) : Type 0 where
+pub record SquashedLayer (weights profits rows : List ℕ) (start : ℕ) (k : Counts) (rooms : Rooms) (depth lower : ℕ) (layers : Layers) (last : Last) (ns es : List ℕ) (s : Settings) (d : Diagram) (oldN oldE : List ℕ) (item : Item) (rest : List Item) : Type 0 where
   pub stands : Stands s d oldN oldE start k rooms
   pub held : Held d oldN oldE ns es
   pub shape : Shape layers last d
@@ -72,7 +72,7 @@ pub record Squared (weights profits rows : List ℕ) (start : ℕ) (k : Counts) 
 
 -- The squashed layer is stored and expanded.
 pub record LayerExpanded (weights profits rows : List ℕ) (start : ℕ) (k : Counts) (rooms : Rooms) (depth lower : ℕ) (layers : Layers) (last : Last) (ns es : List ℕ) (g : Growth) (ns′ es′ : List ℕ) : Type 0 where
-  pub does : (s : Settings) (d : Diagram) (oldN oldE : List ℕ) (item : Item) (rest : List Item) → Squared weights profits rows start k rooms depth lower layers last ns es s d oldN oldE item rest → Grew (expandAll s (item ∷ rest) item depth rows (store d)) oldN oldE g ns′ es′
+  pub does : (s : Settings) (d : Diagram) (oldN oldE : List ℕ) (item : Item) (rest : List Item) → SquashedLayer weights profits rows start k rooms depth lower layers last ns es s d oldN oldE item rest → Grew (expandAll s (item ∷ rest) item depth rows (store d)) oldN oldE g ns′ es′
 
 -- The run whose layer of that depth comes: the tables hold its diagram, and the code's growth is its.
 pub record Stage (weights profits : List ℕ) (t : Task) (r : Record) (oldN oldE : List ℕ) (d : Diagram) (depth : ℕ) (g : Growth) (k : Counts) (ns es : List ℕ) : Type 0 where

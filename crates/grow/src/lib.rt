@@ -1,8 +1,8 @@
 // Rules 1, 2 and 5 of document 01, the outer loop of `_compile` in clean.rs: the root, then layer after layer ordered, squashed if it is too wide, stored and expanded.
 ghost use mathlib.Core.Path.{_≡_};
-ghost use mathlib.Core.Bool.{cond, _&&_};
+ghost use mathlib.Core.Bool.{cond};
 ghost use mathlib.Core.List.{_∷_};
-ghost use Prim.Native.Nat.{ℕ, _+_, _-_, _*_, _<_, _≤_};
+ghost use Prim.Native.Nat.{_+_, _-_, _*_, _<_, _≤_};
 ghost use lib.Dec.{ltb};
 ghost use lib.ListN.{length, take};
 ghost use Rattle.diagram.specs.Run.{isRelaxing};
@@ -67,12 +67,6 @@ fn push_root(nodes: &mut [u64], room: usize, r: Root) -> Step
     Step::Going(one)
 }
 
-fn both(a: bool, b: bool) -> bool
-    ensures { λ r. ⌜ r ≡ (a && b) ⌝ }
-{
-    if a { b } else { false }
-}
-
 // `_squash_if_needed` of clean.rs, its test: more nodes than the width; restricted in any layer, relaxed not while only the root layer is stored.
 fn too_wide(mode: Mode, width: usize, count: usize, stored: usize) -> bool
     ensures { λ b. ⌜ b ≡ tooWide (modeOf mode) width count stored ⌝ }
@@ -80,7 +74,7 @@ fn too_wide(mode: Mode, width: usize, count: usize, stored: usize) -> bool
     match mode {
         Mode::Exact => false,
         Mode::Restricted => width < count,
-        Mode::Relaxed => both(width < count, 1 < stored),
+        Mode::Relaxed => words::both(width < count, 1 < stored),
     }
 }
 
@@ -117,7 +111,9 @@ fn squash(
     rooms: Rooms,
 ) -> Step
     requires { ⌜ Squashable start k rooms (width - 1) count (now list) (now nodes) (now edges) × (0 < width) ⌝ }
-    ensures { λ r. ⌜ WideSquashed mode width start k rooms count (now (list .entry)) (now (nodes .entry)) (now (edges .entry)) r (now (list .exit)) (now (nodes .exit)) (now (edges .exit)) ⌝ }
+    ensures { λ r.
+        ⌜ WideSquashed mode width start k rooms count (now (list .entry)) (now (nodes .entry)) (now (edges .entry)) r (now (list .exit))
+        (now (nodes .exit)) (now (edges .exit)) ⌝ }
 {
     order::by_squash(nodes, list, count);
     if relaxes(mode) {
@@ -139,7 +135,9 @@ fn squash_if_needed(
     wide: bool,
 ) -> Step
     requires { ⌜ IfSquashable wide (t .width) start k (t .rooms) count (now list) (now nodes) (now edges) ⌝ }
-    ensures { λ r. ⌜ IfSquashed wide (t .mode) (t .width) start k (t .rooms) count (now (list .entry)) (now (nodes .entry)) (now (edges .entry)) r (now (list .exit)) (now (nodes .exit)) (now (edges .exit)) ⌝ }
+    ensures { λ r.
+        ⌜ IfSquashed wide (t .mode) (t .width) start k (t .rooms) count (now (list .entry)) (now (nodes .entry)) (now (edges .entry)) r
+        (now (list .exit)) (now (nodes .exit)) (now (edges .exit)) ⌝ }
 {
     let mode = t.mode;
     let width = t.width;
@@ -186,7 +184,9 @@ fn expand_layer(
     last: Last,
 ) -> Growth
     requires { ⌜ Expandable (now weights) (now profits) count k rooms depth layers (now list) (now nodes) (now edges) ⌝ }
-    ensures { λ g. ⌜ LayerExpanded (now (weights .entry)) (now (profits .entry)) (take count (now (list .entry))) start k rooms depth lower layers last (now (nodes .entry)) (now (edges .entry)) g (now (nodes .exit)) (now (edges .exit)) ⌝ }
+    ensures { λ g.
+        ⌜ LayerExpanded (now (weights .entry)) (now (profits .entry)) (take count (now (list .entry))) start k rooms depth lower layers last
+        (now (nodes .entry)) (now (edges .entry)) g (now (nodes .exit)) (now (edges .exit)) ⌝ }
 {
     let next = k.nodes;
     let stored = layers::push(layers, start, next);
@@ -224,7 +224,9 @@ fn grow_layer(
     depth: usize,
 ) -> Growth
     requires { ⌜ Turn (now weights) (now profits) t depth g k (now list) (now nodes) (now edges) ⌝ }
-    ensures { λ r. ⌜ Turned (now (weights .entry)) (now (profits .entry)) t depth g k (now (nodes .entry)) (now (edges .entry)) r (now (nodes .exit)) (now (edges .exit)) ⌝ }
+    ensures { λ r.
+        ⌜ Turned (now (weights .entry)) (now (profits .entry)) t depth g k (now (nodes .entry)) (now (edges .entry)) r (now (nodes .exit))
+        (now (edges .exit)) ⌝ }
 {
     let mode = t.mode;
     let rooms = t.rooms;
@@ -315,7 +317,9 @@ pub fn grow(
     r: Root,
 ) -> Growth
     requires { ⌜ Growable (now weights) (now profits) t r (now nodes) (now edges) ⌝ }
-    ensures { λ g. ⌜ Grew (grown (settingsOf t) (itemsOf (now (weights .entry)) (now (profits .entry))) (recordOf r)) (now (nodes .entry)) (now (edges .entry)) g (now (nodes .exit)) (now (edges .exit)) ⌝ }
+    ensures { λ g.
+        ⌜ Grew (grown (settingsOf t) (itemsOf (now (weights .entry)) (now (profits .entry))) (recordOf r)) (now (nodes .entry)) (now (edges .entry)) g
+        (now (nodes .exit)) (now (edges .exit)) ⌝ }
 {
     let mut list = [0usize; 1024];
     let root = push_root(nodes, t.rooms.nodes, r);

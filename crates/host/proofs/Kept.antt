@@ -33,9 +33,9 @@ use Rattle.job.proofs.Answering.{left-job, left-outside, leaves, answers}
 use Rattle.border.specs.declared.Terms.{Terms}
 use Rattle.border.specs.declared.Question.{Question}
 use Rattle.border.specs.declared.Found.{Found}
-use Rattle.border.specs.declared.Held.{Held}
+use Rattle.border.specs.declared.HostSearch.{HostSearch}
 use Rattle.border.specs.declared.Page.{Page}
-use Rattle.border.specs.Border.{numberOf, askIn, queryIn, searchIn, foundOf, heldAfter, endingNumber, shownOf, outputIn}
+use Rattle.border.specs.Border.{numberOf, askIn, queryIn, searchIn, foundOf, hostSearchAfter, endingNumber, shownOf, outputIn}
 use Rattle.host.specs.Promises.{CompilesFor, StartsFor, PicksFor, Shows, RunsFor}
 
 module _ (d : Compile.After) (a : Answer) (ns es : List ℕ) (rs : List Place) (h : Compiles d a ns es rs) (found : Found) (found-is : found ≡ foundOf a) (n : ℕ) (n-is : n ≡ numberOf (a .verdict)) where
@@ -49,21 +49,21 @@ module _ (d : Compile.After) (a : Answer) (ns es : List ℕ) (rs : List Place) (
         records-are = h .records-are;
       }
 
-module _ (d : Start.After) (old : Held) (a : Started) (rs : List Place) (h : Begins d a rs) (s : Held) (s-is : s ≡ heldAfter (a .verdict) (a .search) old) (n : ℕ) (n-is : n ≡ numberOf (a .verdict)) where
+module _ (d : Start.After) (old : HostSearch) (a : Started) (rs : List Place) (h : Begins d a rs) (s : HostSearch) (s-is : s ≡ hostSearchAfter (a .verdict) (a .search) old) (n : ℕ) (n-is : n ≡ numberOf (a .verdict)) where
   started : StartsFor d n old s rs
   started =
       record {
         number-is = n-is ∙ ap (λ (x : Started). numberOf (x .verdict)) (h .answered);
-        search-is = s-is ∙ ap (λ (x : Started). heldAfter (x .verdict) (x .search) old) (h .answered);
+        search-is = s-is ∙ ap (λ (x : Started). hostSearchAfter (x .verdict) (x .search) old) (h .answered);
         list-is = h .written;
       }
 
-module _ (d : Pick.After) (old : Held) (p : Picked) (ns es : List ℕ) (rs xs : List Place) (h : Picks d p ns es rs xs) (s : Held) (s-is : s ≡ heldAfter (p .verdict) (p .search) old) (n : ℕ) (n-is : n ≡ numberOf (p .verdict)) where
+module _ (d : Pick.After) (old : HostSearch) (p : Picked) (ns es : List ℕ) (rs xs : List Place) (h : Picks d p ns es rs xs) (s : HostSearch) (s-is : s ≡ hostSearchAfter (p .verdict) (p .search) old) (n : ℕ) (n-is : n ≡ numberOf (p .verdict)) where
   picked : PicksFor d n old s ns es rs xs
   picked =
       record {
         number-is = n-is ∙ ap (λ (x : Picked). numberOf (x .verdict)) (h .answered);
-        search-is = s-is ∙ ap (λ (x : Picked). heldAfter (x .verdict) (x .search) old) (h .answered);
+        search-is = s-is ∙ ap (λ (x : Picked). hostSearchAfter (x .verdict) (x .search) old) (h .answered);
         nodes-are = h .nodes-are;
         edges-are = h .edges-are;
         list-is = h .list-is;
@@ -77,14 +77,14 @@ pub compiles-for : (weights profits : List ℕ) (question : Question) (lent : Co
 compiles-for weights profits question lent q e a ns es rs h found f n k =
     subst (λ (x : Query). CompilesFor (Compile.compile (askedBy weights profits x) lent) n found ns es rs) e (compiled (Compile.compile (askedBy weights profits q) lent) a ns es rs h found f n k)
 
-pub starts-for : (weights profits : List ℕ) (terms : Terms) (bound : ℤ) (list : List Place) (old : Held) (ask : Ask) → ask ≡ askIn terms → (a : Started) (rs : List Place) → Begins (Start.start (problemOf weights profits (ask .page) (ask .width)) bound list) a rs
-    → (s : Held) → s ≡ heldAfter (a .verdict) (a .search) old → (n : ℕ) → n ≡ numberOf (a .verdict) → StartsFor (Start.start (problemOf weights profits (terms .page) (terms .width)) bound list) n old s rs
+pub starts-for : (weights profits : List ℕ) (terms : Terms) (bound : ℤ) (list : List Place) (old : HostSearch) (ask : Ask) → ask ≡ askIn terms → (a : Started) (rs : List Place) → Begins (Start.start (problemOf weights profits (ask .page) (ask .width)) bound list) a rs
+    → (s : HostSearch) → s ≡ hostSearchAfter (a .verdict) (a .search) old → (n : ℕ) → n ≡ numberOf (a .verdict) → StartsFor (Start.start (problemOf weights profits (terms .page) (terms .width)) bound list) n old s rs
 starts-for weights profits terms bound list old ask e a rs h s f n k =
     subst (λ (x : Ask). StartsFor (Start.start (problemOf weights profits (x .page) (x .width)) bound list) n old s rs) e
     (started (Start.start (problemOf weights profits (ask .page) (ask .width)) bound list) old a rs h s f n k)
 
-pub picks-for : (weights profits : List ℕ) (terms : Terms) (place : ℕ) (old : Held) (held : Pick.Held) (ask : Ask) (before : Search) → ask ≡ askIn terms → before ≡ searchIn old → (p : Picked) (ns es : List ℕ) (rs xs : List Place) → Picks (Pick.pick (askedIn weights profits ask place) (searchOf before) held) p ns es rs xs
-    → (s : Held) → s ≡ heldAfter (p .verdict) (p .search) old → (n : ℕ) → n ≡ numberOf (p .verdict) → PicksFor (Pick.pick (askedIn weights profits (askIn terms) place) (searchOf (searchIn old)) held) n old s ns es rs xs
+pub picks-for : (weights profits : List ℕ) (terms : Terms) (place : ℕ) (old : HostSearch) (held : Pick.Held) (ask : Ask) (before : Search) → ask ≡ askIn terms → before ≡ searchIn old → (p : Picked) (ns es : List ℕ) (rs xs : List Place) → Picks (Pick.pick (askedIn weights profits ask place) (searchOf before) held) p ns es rs xs
+    → (s : HostSearch) → s ≡ hostSearchAfter (p .verdict) (p .search) old → (n : ℕ) → n ≡ numberOf (p .verdict) → PicksFor (Pick.pick (askedIn weights profits (askIn terms) place) (searchOf (searchIn old)) held) n old s ns es rs xs
 picks-for weights profits terms place old held ask before e b p ns es rs xs h s f n k =
     subst (λ (x : Ask). PicksFor (Pick.pick (askedIn weights profits x place) (searchOf (searchIn old)) held) n old s ns es rs xs) e
     (subst (λ (x : Search). PicksFor (Pick.pick (askedIn weights profits ask place) (searchOf x) held) n old s ns es rs xs) b

@@ -15,9 +15,9 @@ use Rattle.jobs.specs.Page.{refusalOf, answerOf}
 use Rattle.page_text.specs.Says.{Says}
 use Rattle.job.specs.Answered.{Leaves}
 use Rattle.border.specs.declared.Found.{Found}
-use Rattle.border.specs.declared.Held.{Held}
+use Rattle.border.specs.declared.HostSearch.{HostSearch}
 use Rattle.border.specs.declared.Page.{Page}
-use Rattle.border.specs.Border.{numberOf, foundOf, heldAfter, endingNumber, outputIn}
+use Rattle.border.specs.Border.{numberOf, foundOf, hostSearchAfter, endingNumber, outputIn}
 
 pub record CompilesFor (d : Compile.After) (n : ℕ) (found : Found) (ns es : List ℕ) (records : List Place) : Type 0 where
   pub number-is : n ≡ numberOf (answerFrom (d .answer) .verdict)
@@ -27,14 +27,14 @@ pub record CompilesFor (d : Compile.After) (n : ℕ) (found : Found) (ns es : Li
   pub records-are : records ≡ d .lent .records
 
 -- old is the lent search before the call, s after it
-pub record StartsFor (d : Start.After) (n : ℕ) (old s : Held) (list : List Place) : Type 0 where
+pub record StartsFor (d : Start.After) (n : ℕ) (old s : HostSearch) (list : List Place) : Type 0 where
   pub number-is : n ≡ numberOf (startedFrom (d .answer) .verdict)
-  pub search-is : s ≡ heldAfter (startedFrom (d .answer) .verdict) (startedFrom (d .answer) .search) old
+  pub search-is : s ≡ hostSearchAfter (startedFrom (d .answer) .verdict) (startedFrom (d .answer) .search) old
   pub list-is : list ≡ d .list
 
-pub record PicksFor (d : Pick.After) (n : ℕ) (old s : Held) (ns es : List ℕ) (list scratch : List Place) : Type 0 where
+pub record PicksFor (d : Pick.After) (n : ℕ) (old s : HostSearch) (ns es : List ℕ) (list scratch : List Place) : Type 0 where
   pub number-is : n ≡ numberOf (pickedFrom (d .answer) (d .search) .verdict)
-  pub search-is : s ≡ heldAfter (pickedFrom (d .answer) (d .search) .verdict) (pickedFrom (d .answer) (d .search) .search) old
+  pub search-is : s ≡ hostSearchAfter (pickedFrom (d .answer) (d .search) .verdict) (pickedFrom (d .answer) (d .search) .search) old
   pub nodes-are : ns ≡ d .held .lent .nodes
   pub edges-are : es ≡ d .held .lent .edges
   pub list-is : list ≡ d .held .list

@@ -10,7 +10,7 @@ ghost use Rattle.search.specs.Held.{searchOf};
 ghost use Rattle.border.specs.Border.{askIn, queryIn, searchIn};
 ghost use Rattle.host.specs.Promises.{CompilesFor, StartsFor, PicksFor, RunsFor};
 use border::Found;
-use border::Held;
+use border::HostSearch;
 use border::Page;
 use border::Question;
 use border::Terms;
@@ -27,7 +27,10 @@ pub extern "C" fn jambtulip_compile(
     question: Question,
     found: &mut Found,
 ) -> u64
-    ensures { λ n. ⌜ CompilesFor (compile (askedBy (now (weights .entry)) (now (profits .entry)) (queryIn question)) (lentOf (now (nodes .entry)) (now (edges .entry)) (places (now (records .entry))))) n (now (found .exit)) (now (nodes .exit)) (now (edges .exit)) (places (now (records .exit))) ⌝ }
+    ensures { λ n.
+        ⌜ CompilesFor
+        (compile (askedBy (now (weights .entry)) (now (profits .entry)) (queryIn question)) (lentOf (now (nodes .entry)) (now (edges .entry)) (places (now (records .entry)))))
+        n (now (found .exit)) (now (nodes .exit)) (now (edges .exit)) (places (now (records .exit))) ⌝ }
 {
     let q = border::query_in(question);
     let a = compile_records::compile_into(weights, profits, nodes, edges, records, q);
@@ -44,9 +47,11 @@ pub extern "C" fn jambtulip_start(
     terms: Terms,
     bound: i64,
     list: &mut [Record],
-    s: &mut Held,
+    s: &mut HostSearch,
 ) -> u64
-    ensures { λ n. ⌜ StartsFor (start (problemOf (now (weights .entry)) (now (profits .entry)) (terms .page) (terms .width)) bound (places (now (list .entry)))) n (now (s .entry)) (now (s .exit)) (places (now (list .exit))) ⌝ }
+    ensures { λ n.
+        ⌜ StartsFor (start (problemOf (now (weights .entry)) (now (profits .entry)) (terms .page) (terms .width)) bound (places (now (list .entry)))) n
+        (now (s .entry)) (now (s .exit)) (places (now (list .exit))) ⌝ }
 {
     let old = *s;
     let ask = border::ask_in(terms);
@@ -67,9 +72,12 @@ pub extern "C" fn jambtulip_pick(
     scratch: &mut [Record],
     terms: Terms,
     place: usize,
-    s: &mut Held,
+    s: &mut HostSearch,
 ) -> u64
-    ensures { λ n. ⌜ PicksFor (pick (askedIn (now (weights .entry)) (now (profits .entry)) (askIn terms) place) (searchOf (searchIn (now (s .entry)))) (heldIn (places (now (list .entry))) (now (nodes .entry)) (now (edges .entry)) (places (now (scratch .entry))))) n (now (s .entry)) (now (s .exit)) (now (nodes .exit)) (now (edges .exit)) (places (now (list .exit))) (places (now (scratch .exit))) ⌝ }
+    ensures { λ n.
+        ⌜ PicksFor
+        (pick (askedIn (now (weights .entry)) (now (profits .entry)) (askIn terms) place) (searchOf (searchIn (now (s .entry)))) (heldIn (places (now (list .entry))) (now (nodes .entry)) (now (edges .entry)) (places (now (scratch .entry)))))
+        n (now (s .entry)) (now (s .exit)) (now (nodes .exit)) (now (edges .exit)) (places (now (list .exit))) (places (now (scratch .exit))) ⌝ }
 {
     let old = *s;
     let ask = border::ask_in(terms);
@@ -100,7 +108,9 @@ pub extern "C" fn jambtulip_run_job(
     scratch: &mut [Record],
     page: &mut Page,
 ) -> u64
-    ensures { λ n. ⌜ RunsFor (now (text .entry)) (heldIn (places (now (list .entry))) (now (nodes .entry)) (now (edges .entry)) (places (now (scratch .entry)))) n (now (page .exit)) (heldIn (places (now (list .exit))) (now (nodes .exit)) (now (edges .exit)) (places (now (scratch .exit)))) ⌝ }
+    ensures { λ n.
+        ⌜ RunsFor (now (text .entry)) (heldIn (places (now (list .entry))) (now (nodes .entry)) (now (edges .entry)) (places (now (scratch .entry)))) n
+        (now (page .exit)) (heldIn (places (now (list .exit))) (now (nodes .exit)) (now (edges .exit)) (places (now (scratch .exit)))) ⌝ }
 {
     let read = job_text::read(text);
     let ended = job::run_if(read, nodes, edges, list, scratch);

@@ -21,8 +21,8 @@ use Rattle.demand3.proofs.Picks.{Went, early, halted, outgrown, dropped, grown,
 use Rattle.search_corollaries.specs.Calls as Calling
 use Rattle.search_corollaries.specs.Calls.{Calls}
 use Rattle.search_corollaries.proofs.Calls.{calls-are-few, calls-end-optimal, calls-stand}
-use Rattle.border.specs.declared.Held.{Held}
-use Rattle.border.specs.Border.{flagIn, flagOf, askIn, searchIn, heldOf, heldAfter}
+use Rattle.border.specs.declared.HostSearch.{HostSearch}
+use Rattle.border.specs.Border.{flagIn, flagOf, askIn, searchIn, hostSearchOf, hostSearchAfter}
 use Rattle.host_corollaries.specs.Calls as Hosting
 use Rattle.host_corollaries.specs.Calls.{HostCalls, HostCallsAreFew, HostCallsEndOptimal, HostCallsStand}
 use Rattle.host_corollaries.proofs.Numbers.{zero-is-started}
@@ -34,33 +34,33 @@ flag-back : (b : Bool) → flagIn (flagOf b) ≡ b
 flag-back true = refl
 flag-back false = refl
 
-search-back : (s : Search) → searchIn (heldOf s) ≡ s
+search-back : (s : Search) → searchIn (hostSearchOf s) ≡ s
 search-back s = ap (λ (b : Bool). record { best = s .best; held = b; path = s .path; opened = s .opened; picks = s .picks }) (flag-back (s .held))
 
 -- an accepted start's struct stands for its search
-started-search : (x : Start.Started) (t : Def.Search) (old s : Held) → x ≡ started t → s ≡ heldAfter (startedFrom x .verdict) (startedFrom x .search) old → startedFrom x .search ≡ searchIn s
+started-search : (x : Start.Started) (t : Def.Search) (old s : HostSearch) → x ≡ started t → s ≡ hostSearchAfter (startedFrom x .verdict) (startedFrom x .search) old → startedFrom x .search ≡ searchIn s
 started-search (Start.refused n) t old s e h = let z : _≡_ {A = ℕ} 0 1 = cc in absurd (omega arith)
 started-search (started u) t old s e h = sym (ap searchIn h ∙ search-back (searchFrom u))
 
 -- a refused pick keeps the search
-went-kept : (q : Pick.Asked) (t : Def.Search) (h : Pick.Held) (n : ℕ) (r : Pick.After) → Went q t h r → r .answer ≡ refusedBy n → r .search ≡ t
+search-kept : (q : Pick.Asked) (t : Def.Search) (h : Pick.Held) (n : ℕ) (r : Pick.After) → Went q t h r → r .answer ≡ refusedBy n → r .search ≡ t
 unfolding refusing accepting
-went-kept q t h n r (early k e) f = refl
-went-kept q t h n r (halted k y e) f = refl
-went-kept q t h n r (outgrown c y e o) f = refl
-went-kept q t h n r (dropped y low) f = let z : _≡_ {A = ℕ} 0 1 = cc in absurd (omega arith)
-went-kept q t h n r (grown c y e) f = let z : _≡_ {A = ℕ} 0 1 = cc in absurd (omega arith)
+search-kept q t h n r (early k e) f = refl
+search-kept q t h n r (halted k y e) f = refl
+search-kept q t h n r (outgrown c y e o) f = refl
+search-kept q t h n r (dropped y low) f = let z : _≡_ {A = ℕ} 0 1 = cc in absurd (omega arith)
+search-kept q t h n r (grown c y e l) f = let z : _≡_ {A = ℕ} 0 1 = cc in absurd (omega arith)
 
 -- so a pick's struct stands for the search after it, accepted or refused
-module _ (q : Pick.Asked) (old s : Held) (h : Pick.Held) where
+module _ (q : Pick.Asked) (old s : HostSearch) (h : Pick.Held) where
   abbrev after : Pick.After
   after = pick q (searchOf (searchIn old)) h
 
-  picked-search : (x : Pick.Picked) → after .answer ≡ x → s ≡ heldAfter (pickedFrom x (after .search) .verdict) (pickedFrom x (after .search) .search) old → pickedFrom x (after .search) .search ≡ searchIn s
-  picked-search (refusedBy n) e k = ap searchFrom (went-kept q (searchOf (searchIn old)) h n after (went q (searchOf (searchIn old)) h) e) ∙ ap searchIn (sym k)
+  picked-search : (x : Pick.Picked) → after .answer ≡ x → s ≡ hostSearchAfter (pickedFrom x (after .search) .verdict) (pickedFrom x (after .search) .search) old → pickedFrom x (after .search) .search ≡ searchIn s
+  picked-search (refusedBy n) e k = ap searchFrom (search-kept q (searchOf (searchIn old)) h n after (went q (searchOf (searchIn old)) h) e) ∙ ap searchIn (sym k)
   picked-search accepted e k = sym (ap searchIn k ∙ search-back (searchFrom (after .search)))
 
-pub calls-of : {b : Blocks} {bound : ℤ} {most : ℕ} {s : Held} {list : List Record} → HostCalls b bound most s list → Calls b bound most (searchIn s) list
+pub calls-of : {b : Blocks} {bound : ℤ} {most : ℕ} {s : HostSearch} {list : List Record} → HostCalls b bound most s list → Calls b bound most (searchIn s) list
 calls-of {b} {bound} {most} (Hosting.begins width list list′ old s h) =
     let d = start (problemAt b width) bound (places list) in
     let t = zero-is-started (problemAt b width) bound (places list) 0 old s (places list′) h .0 refl in

@@ -103,7 +103,7 @@ went-number q t h n r (early k e) f = let z : k ≡ n = cc in subst (λ (i : ℕ
 went-number q t h n r (halted k y e) f = let z : k ≡ n = cc in subst (λ (i : ℕ). 1 ≤ i) z (effect-number _ _ k _ (Compiling.went _ _) e)
 went-number q t h n r (outgrown c y e o) f = let z : 13 ≡ n = cc in omega (arith, z)
 went-number q t h n r (dropped y low) f = let z : _≡_ {A = ℕ} 0 1 = cc in absurd (omega arith)
-went-number q t h n r (grown c y e) f = let z : _≡_ {A = ℕ} 0 1 = cc in absurd (omega arith)
+went-number q t h n r (grown c y e l) f = let z : _≡_ {A = ℕ} 0 1 = cc in absurd (omega arith)
 
 module _ (q : Pick.Asked) (t : Search) (h : Pick.Held) (n : ℕ) where
   zero-picked : (x : Pick.Picked) → pick q t h .answer ≡ x → n ≡ numberOf (pickedFrom x (pick q t h .search) .verdict) → (n ≡ 0 → pick q t h .answer ≡ accepted) × (pick q t h .answer ≡ accepted → n ≡ 0)

@@ -21,8 +21,8 @@ use Rattle.searches.specs.Pick.{refusedBy, accepted, refusing, accepting, pick}
 use Rattle.search.specs.Answered.{startedFrom, pickedFrom}
 use Rattle.demand3.proofs.Picks.{Went, early, halted, outgrown, dropped, grown, went}
 use Rattle.border.specs.declared.Found.{Found}
-use Rattle.border.specs.declared.Held.{Held}
-use Rattle.border.specs.Border.{numberOf, foundOf, heldAfter}
+use Rattle.border.specs.declared.HostSearch.{HostSearch}
+use Rattle.border.specs.Border.{numberOf, foundOf, hostSearchAfter}
 use Rattle.host_corollaries.specs.Refused.{nothingFound, RefusedCompileFindsNothing, RefusedStartKeeps, RefusedPickKeeps}
 
 nothing-found : (x : Call.Answer) (n : ℕ) (found : Found) → n ≡ numberOf (answerFrom x .verdict) → found ≡ foundOf (answerFrom x) → n ≢ 0 → found ≡ nothingFound
@@ -35,7 +35,7 @@ refused-compile-finds-nothing q l n found ns es rs k h = nothing-found (compile 
 
 -- ---- a start
 
-kept-start : (x : Start.Started) (n : ℕ) (old s : Held) → n ≡ numberOf (startedFrom x .verdict) → s ≡ heldAfter (startedFrom x .verdict) (startedFrom x .search) old → n ≢ 0 → s ≡ old
+kept-start : (x : Start.Started) (n : ℕ) (old s : HostSearch) → n ≡ numberOf (startedFrom x .verdict) → s ≡ hostSearchAfter (startedFrom x .verdict) (startedFrom x .search) old → n ≢ 0 → s ≡ old
 kept-start (Start.refused k) n old s m f h = f
 kept-start (started t) n old s m f h = absurd (h m)
 
@@ -52,7 +52,7 @@ refused-start-keeps p bound l n old s list k h = (kept-start (start p bound l .a
 
 -- ---- a pick
 
-kept-pick : (x : Pick.Picked) (t : Search) (n : ℕ) (old s : Held) → n ≡ numberOf (pickedFrom x t .verdict) → s ≡ heldAfter (pickedFrom x t .verdict) (pickedFrom x t .search) old → n ≢ 0 → s ≡ old
+kept-pick : (x : Pick.Picked) (t : Search) (n : ℕ) (old s : HostSearch) → n ≡ numberOf (pickedFrom x t .verdict) → s ≡ hostSearchAfter (pickedFrom x t .verdict) (pickedFrom x t .search) old → n ≢ 0 → s ≡ old
 kept-pick (refusedBy k) t n old s m f h = f
 kept-pick accepted t n old s m f h = absurd (h m)
 
@@ -62,7 +62,7 @@ went-kept q t h n r (early k e) m z = refl
 went-kept q t h n r (halted k y e) m z = refl
 went-kept q t h n r (outgrown c y e o) m z = refl
 went-kept q t h n r (dropped y low) m z = absurd (z m)
-went-kept q t h n r (grown c y e) m z = absurd (z m)
+went-kept q t h n r (grown c y e l) m z = absurd (z m)
 
 pub refused-pick-keeps : RefusedPickKeeps
 refused-pick-keeps q t h n old s ns es list scratch k z =

@@ -14,7 +14,7 @@ use Rattle.searches.specs.Pick.{pick, accepted}
 use Rattle.jobs.specs.Text.{Job, IsText}
 use Rattle.jobs.specs.Run.{run, ended}
 use Rattle.border.specs.declared.Found.{Found}
-use Rattle.border.specs.declared.Held.{Held}
+use Rattle.border.specs.declared.HostSearch.{HostSearch}
 use Rattle.border.specs.declared.Page.{Page}
 use Rattle.host.specs.Promises.{CompilesFor, StartsFor, PicksFor, RunsFor}
 
@@ -25,12 +25,12 @@ ZeroIsCompiled =
 
 abbrev pub ZeroIsStarted : Type 0
 ZeroIsStarted =
-    (p : Problem) (bound : ℤ) (l : List Place) (n : ℕ) (old s : Held) (list : List Place) → StartsFor (start p bound l) n old s list →
+    (p : Problem) (bound : ℤ) (l : List Place) (n : ℕ) (old s : HostSearch) (list : List Place) → StartsFor (start p bound l) n old s list →
     (n ≡ 0 → (t : Search) × (start p bound l .answer ≡ started t)) × ((t : Search) → start p bound l .answer ≡ started t → n ≡ 0)
 
 abbrev pub ZeroIsPicked : Type 0
 ZeroIsPicked =
-    (q : Pick.Asked) (t : Search) (h : Pick.Held) (n : ℕ) (old s : Held) (ns es : List ℕ) (list scratch : List Place) → PicksFor (pick q t h) n old s ns es list scratch →
+    (q : Pick.Asked) (t : Search) (h : Pick.Held) (n : ℕ) (old s : HostSearch) (ns es : List ℕ) (list scratch : List Place) → PicksFor (pick q t h) n old s ns es list scratch →
     (n ≡ 0 → pick q t h .answer ≡ accepted) × (pick q t h .answer ≡ accepted → n ≡ 0)
 
 -- a job's run is accepted if it came to its end, with an empty list

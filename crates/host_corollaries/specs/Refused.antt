@@ -14,7 +14,7 @@ use Rattle.searches.specs.Start.{start}
 use Rattle.searches.specs.Pick as Pick
 use Rattle.searches.specs.Pick.{pick}
 use Rattle.border.specs.declared.Found.{Found}
-use Rattle.border.specs.declared.Held.{Held}
+use Rattle.border.specs.declared.HostSearch.{HostSearch}
 use Rattle.host.specs.Promises.{CompilesFor, StartsFor, PicksFor}
 
 -- 'A refusing compile gives its number alone.'
@@ -41,9 +41,9 @@ RefusedCompileFindsNothing = (q : Request) (l : Lent) (n : ℕ) (found : Found) 
 
 -- 'refused, it gives no search and leaves the list unchanged'
 abbrev pub RefusedStartKeeps : Type 0
-RefusedStartKeeps = (p : Problem) (bound : ℤ) (l : List Place) (n : ℕ) (old s : Held) (list : List Place) → StartsFor (start p bound l) n old s list → n ≢ 0 → (s ≡ old) × (list ≡ l)
+RefusedStartKeeps = (p : Problem) (bound : ℤ) (l : List Place) (n : ℕ) (old s : HostSearch) (list : List Place) → StartsFor (start p bound l) n old s list → n ≢ 0 → (s ≡ old) × (list ≡ l)
 
 -- 'A refused pick changes neither search nor open list'
 abbrev pub RefusedPickKeeps : Type 0
 RefusedPickKeeps =
-    (q : Pick.Asked) (t : Search) (h : Pick.Held) (n : ℕ) (old s : Held) (ns es : List ℕ) (list scratch : List Place) → PicksFor (pick q t h) n old s ns es list scratch → n ≢ 0 → (s ≡ old) × (list ≡ h .list)
+    (q : Pick.Asked) (t : Search) (h : Pick.Held) (n : ℕ) (old s : HostSearch) (ns es : List ℕ) (list scratch : List Place) → PicksFor (pick q t h) n old s ns es list scratch → n ≢ 0 → (s ≡ old) × (list ≡ h .list)

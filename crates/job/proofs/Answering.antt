@@ -11,7 +11,7 @@ use borrow.Author.Tests.{leb-true, leb-false, lt-ltb, eq-eqb}
 use Rattle.knapsack.specs.Items.{Item}
 use Rattle.knapsack.proofs.Cases.{by-test}
 use Rattle.words.specs.I64.{i64Min}
-use Rattle.diagram.specs.After4.{CutsetKind, lastExactLayer, frontier}
+use Rattle.diagram.specs.After4.{CutsetKind}
 use Rattle.records.specs.declared.Record.{Record}
 use Rattle.records.specs.Structs.{places, noRecord}
 use Rattle.calls.specs.Asked.{Problem}
@@ -35,6 +35,7 @@ use Rattle.page_text.specs.Says.{Says}
 use Rattle.job_text.specs.declared.ReadJob.{ReadJob}
 use Rattle.job_text.specs.Kept.{room, weightsIn, profitsIn}
 use Rattle.job_text.specs.Reads.{kindFrom, readOf, Reads}
+use Rattle.job_text.proofs.Accepted.{kind-back}
 use Rattle.job_run.specs.Runs.{endingOf, leftIn}
 use Rattle.job.specs.Answered.{leftRead, runs, unreadNumber, leftIf, Answers, Leaves, LeavesTables, emptyPlaces}
 use Rattle.job.proofs.Steps.{runs-none}
@@ -54,10 +55,6 @@ profits-back zero [] le = refl
 profits-back zero (i ∷ is) le = absurd (omega (arith, le))
 profits-back (suc k) [] le = refl
 profits-back (suc k) (i ∷ is) le = ap (λ (xs : List ℕ). i .profit ∷ xs) (profits-back k is (omega (arith, le)))
-
-kind-back : (k : CutsetKind) → kindOf (kindFrom k) ≡ k
-kind-back lastExactLayer = refl
-kind-back frontier = refl
 
 -- ---- a job of at most 64 items is run, with all of them
 

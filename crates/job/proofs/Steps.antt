@@ -8,6 +8,7 @@ use lib.Dec.{leb}
 use lib.IntN.{ℤ, pos}
 use lib.ListN.{length, take}
 use borrow.Author.Tests.{leb-true}
+use Rattle.theorems.proofs.Bool.{and-right}
 use Rattle.cutset.specs.declared.Kind.{Kind}
 use Rattle.cutset.specs.Whole.{kindOf}
 use Rattle.refusals.specs.declared.Verdict.{Verdict}
@@ -37,10 +38,6 @@ runs-read r e = ap (λ (b : Bool). b && leb (r .count) 64) (sym e)
 
 pub runs-none : (r : ReadJob) → r .ok ≡ false → false ≡ runs r
 runs-none r e = ap (λ (b : Bool). b && leb (r .count) 64) (sym e)
-
-and-right : (a b : Bool) → (a && b) ≡ true → b ≡ true
-and-right true b e = e
-and-right false b e = let z : _≡_ {A = ℕ} 0 1 = cc in absurd (omega arith)
 
 pub few-run : (r : ReadJob) → runs r ≡ true → r .count ≤ 64
 few-run r e = leb-true (r .count) 64 (and-right (r .ok) (leb (r .count) 64) e)

@@ -43,7 +43,7 @@ abbrev pub leftIf : Bool → ReadJob → Held → Left
 leftIf true r h = leftRead r h
 leftIf false r h = left (refused (unreadNumber (r .ok))) h
 
--- what an answer is asked: an accepted run's best value has eight digits, and its items are few
+-- what `answer_of` asks: an accepted run's best value has eight digits at most, and its job 64 items at most
 pub record Writable (r : ReadJob) (p : Picked) : Type 0 where
   pub small : p .verdict ≡ Accepted → natural (p .search .best) < 100000000
   pub few : p .verdict ≡ Accepted → r .count ≤ 64

@@ -73,7 +73,9 @@ fn run_items(
     scratch: &mut [Record],
 ) -> Picked
     requires { ⌜ r .count ≤ 64 ⌝ }
-    ensures { λ p. ⌜ leftIn p (heldIn (places (now (list .exit))) (now (nodes .exit)) (now (edges .exit)) (places (now (scratch .exit)))) ≡ leftRead r (heldIn (places (now (list .entry))) (now (nodes .entry)) (now (edges .entry)) (places (now (scratch .entry)))) ⌝ }
+    ensures { λ p.
+        ⌜ leftIn p (heldIn (places (now (list .exit))) (now (nodes .exit)) (now (edges .exit)) (places (now (scratch .exit)))) ≡ leftRead r
+        (heldIn (places (now (list .entry))) (now (nodes .entry)) (now (edges .entry)) (places (now (scratch .entry)))) ⌝ }
 {
     let weights = weights_of(r);
     let profits = profits_of(r);
@@ -90,7 +92,7 @@ fn run_items(
     )
 }
 
-// The run of a job that was read, or why there is none.
+// The run of a job that was read, or why there is none. As in a run, nothing is promised of a refused one's search.
 pub fn run_if(
     r: ReadJob,
     nodes: &mut [u64],
@@ -98,7 +100,9 @@ pub fn run_if(
     list: &mut [Record],
     scratch: &mut [Record],
 ) -> Picked
-    ensures { λ p. ⌜ leftIn p (heldIn (places (now (list .exit))) (now (nodes .exit)) (now (edges .exit)) (places (now (scratch .exit)))) ≡ leftIf (runs r) r (heldIn (places (now (list .entry))) (now (nodes .entry)) (now (edges .entry)) (places (now (scratch .entry)))) ⌝ }
+    ensures { λ p.
+        ⌜ leftIn p (heldIn (places (now (list .exit))) (now (nodes .exit)) (now (edges .exit)) (places (now (scratch .exit)))) ≡ leftIf (runs r) r
+        (heldIn (places (now (list .entry))) (now (nodes .entry)) (now (edges .entry)) (places (now (scratch .entry)))) ⌝ }
 {
     if is_run(r) {
         run_items(r, nodes, edges, list, scratch)
@@ -131,14 +135,17 @@ pub fn run_job(
     list: &mut [Record],
     scratch: &mut [Record],
 ) -> Output
-    ensures { λ o. ⌜ Answers (now (text .entry)) (lentOf (now (nodes .entry)) (now (edges .entry)) (places (now (scratch .entry)))) (places (now (list .entry))) o × Leaves (now (text .entry)) (heldIn (places (now (list .entry))) (now (nodes .entry)) (now (edges .entry)) (places (now (scratch .entry)))) (heldIn (places (now (list .exit))) (now (nodes .exit)) (now (edges .exit)) (places (now (scratch .exit)))) ⌝ }
+    ensures { λ o.
+        ⌜ Answers (now (text .entry)) (lentOf (now (nodes .entry)) (now (edges .entry)) (places (now (scratch .entry)))) (places (now (list .entry))) o
+        × Leaves (now (text .entry)) (heldIn (places (now (list .entry))) (now (nodes .entry)) (now (edges .entry)) (places (now (scratch .entry))))
+        (heldIn (places (now (list .exit))) (now (nodes .exit)) (now (edges .exit)) (places (now (scratch .exit)))) ⌝ }
 {
     let r = job_text::read(text);
     let p = run_if(r, nodes, edges, list, scratch);
     answer_of(r, p)
 }
 
-fn least(a: usize, b: usize) -> usize
+fn smaller(a: usize, b: usize) -> usize
     ensures { λ r. ⌜ r ≡ min a b ⌝ }
 {
     if a < b { a } else { b }
@@ -153,12 +160,16 @@ pub fn answer(
     open_places: usize,
     scratch_places: usize,
 ) -> Output
-    ensures { λ o. ⌜ Answers (now (text .entry)) (lentOf (now (nodes .entry)) (now (edges .entry)) (emptyPlaces (min «scratch_places» 4096))) (emptyPlaces (min «open_places» 16384)) o × LeavesTables (now (text .entry)) (heldIn (emptyPlaces (min «open_places» 16384)) (now (nodes .entry)) (now (edges .entry)) (emptyPlaces (min «scratch_places» 4096))) (now (nodes .exit)) (now (edges .exit)) ⌝ }
+    ensures { λ o.
+        ⌜ Answers (now (text .entry)) (lentOf (now (nodes .entry)) (now (edges .entry)) (emptyPlaces (min «scratch_places» 4096)))
+        (emptyPlaces (min «open_places» 16384)) o × LeavesTables (now (text .entry))
+        (heldIn (emptyPlaces (min «open_places» 16384)) (now (nodes .entry)) (now (edges .entry)) (emptyPlaces (min «scratch_places» 4096)))
+        (now (nodes .exit)) (now (edges .exit)) ⌝ }
 {
     let none = records::empty();
     let mut list = [none; 16384];
     let mut scratch = [none; 4096];
-    let n = least(open_places, 16384);
-    let m = least(scratch_places, 4096);
+    let n = smaller(open_places, 16384);
+    let m = smaller(scratch_places, 4096);
     run_job(text, nodes, edges, &mut list[..n], &mut scratch[..m])
 }

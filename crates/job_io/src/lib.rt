@@ -5,7 +5,7 @@ ghost use lib.ListN.{length};
 ghost use Rattle.io.specs.Counts.{Counts};
 use page_text::Output;
 
-// Whether a text was read to its end, and how many bytes of it stand in the buffer. One that fills the buffer is longer than any job's text.
+// Whether a text could be read, and how many of its bytes stand in the buffer. One that fills the buffer is longer than any job's text, and needn't be read on.
 pub struct Taken {
     pub ok: bool,
     pub count: usize,
@@ -55,7 +55,7 @@ fn read_all(fd: i32, buf: &mut [u8]) -> Taken
 }
 
 // The text of a file.
-pub fn read_file(path: &[u8], buf: &mut [u8]) -> Taken
+fn read_file(path: &[u8], buf: &mut [u8]) -> Taken
     ensures { λ t. ⌜ Counts (t .count) (now (buf .exit)) ⌝ }
 {
     let fd = os::open_read(path);

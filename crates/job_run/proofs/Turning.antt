@@ -14,7 +14,7 @@ use Prim.Native.Nat.{ℕ, zero, suc, _+_, _<_, _≤_}
 use native.Mathlib.Omega.{arith}
 use lib.Dec.{leb, ltb, eqb}
 use lib.IntN.{ℤ}
-use lib.ListN.{length, take, drop, length-append, take-append-drop}
+use lib.ListN.{length, take, drop, length-append}
 use lib.Signed.{ltZ}
 use borrow.Author.Tests.{ltb-true, ltb-false, eq-eqb, ne-eqb}
 use Rattle.words.specs.I64.{i64Min}
@@ -35,7 +35,7 @@ use Rattle.searches.specs.Search.{mostPicks, openIn, without}
 use Rattle.searches.specs.Start as Start
 use Rattle.searches.specs.Start.{start, begun}
 use Rattle.searches.specs.Pick as Pick
-use Rattle.searches.specs.Pick.{Asked, Held, After, refusedBy, accepted, pickRefusal, pickedFrom, requestFor, refusing, accepting, better, counted, ifRoom, appended, lentAfter, afterCompile, ifAbove, unless, pick}
+use Rattle.searches.specs.Pick.{Asked, Held, After, refusedBy, accepted, pickRefusal, pickedFrom, requestFor, refusing, accepting, better, onePickMore, ifRoom, appended, lentAfter, afterCompile, ifAbove, unless, pick}
 use Rattle.search.specs.declared.Search.{Search}
 use Rattle.search.specs.declared.Started.{Started}
 use Rattle.search.specs.declared.Picked.{Picked}
@@ -73,7 +73,7 @@ unfolding refusing
 refusing-counts n s s₀ list l e = no-refusal n e
 
 accepting-counts : (s s₁ : Def.Search) (left list : List Place) (l : Lent) → s₁ .picks ≡ s .picks → IfAccepted s (accepting s₁ left list l)
-unfolding accepting counted overPlaces
+unfolding accepting onePickMore overPlaces
 accepting-counts s s₁ left list l e a =
     record { room = omega (arith, length-append left (drop (length left) list)); more = ap suc e }
 
@@ -139,28 +139,15 @@ pick-countable q s h a = go (pickFirst (q .problem) s (q .place) (length (h .lis
 
 -- ---- two picks from one list, whatever tables and scratch list hold: the whole list is the same after them
 
-same-list : (n : ℕ) (xs ys : List Place) → take n xs ≡ take n ys → drop n xs ≡ drop n ys → xs ≡ ys
-same-list n xs ys a b = sym (take-append-drop n xs) ∙ ap₂ (λ (u v : List Place). u ++ v) a b ∙ take-append-drop n ys
-
 pub record Same (d e : After) : Type 0 where
   pub answers : d .answer ≡ e .answer
   pub searches : d .search ≡ e .search
   pub lists : d .held .list ≡ e .held .list
 
 same-picks : (q : Asked) (s : Def.Search) (list : List Place) (l m : Lent) → roomsOf l ≡ roomsOf m → Same (pick q s (record { list = list; lent = l })) (pick q s (record { list = list; lent = m }))
-unfolding openIn
 same-picks q s list l m e =
-    let h : Held = record { list = list; lent = l } in
-    let k : Held = record { list = list; lent = m } in
-    let z = picks-alike q s h k (record { opened = refl; long = refl; rooms = e }) in
-    let d = pick q s h in
-    let f = pick q s k in
-    let n : d .search .opened ≡ f .search .opened = ap (λ (u : Def.Search). u .opened) (z .searches) in
-    record {
-      answers = z .answers;
-      searches = z .searches;
-      lists = same-list (d .search .opened) (d .held .list) (f .held .list) (z .opened ∙ ap (λ (u : ℕ). take u (f .held .list)) (sym n)) (z .beyond .0 ∙ sym (ap (λ (u : ℕ). drop u (f .held .list)) n ∙ z .beyond .1 ∙ ap (λ (u : ℕ). drop u list) (sym n)));
-    }
+    let z = picks-alike q s (record { list = list; lent = l }) (record { list = list; lent = m }) (record { opened = refl; long = refl; rooms = e }) in
+    record { answers = z .answers; searches = z .searches; lists = z .first-list ∙ sym (z .second-list) }
 
 pub same-rooms : (ns ns′ es es′ : List ℕ) (xs xs′ : List Record) → length ns′ ≡ length ns → length es′ ≡ length es → length xs′ ≡ length xs → roomsOf (lentOf ns es (places xs)) ≡ roomsOf (lentOf ns′ es′ (places xs′))
 unfolding roomsOf

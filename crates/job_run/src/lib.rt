@@ -56,7 +56,10 @@ fn turn(
     p: Picked,
 ) -> Picked
     requires { ⌜ p .search .opened ≤ length (now list) ⌝ }
-    ensures { λ r. ⌜ Picks (pick (askedFor (problemOf (now (weights .entry)) (now (profits .entry)) (ask .page) (ask .width)) (kindOf (ask .kind)) (searchOf (p .search)) (places (now (list .entry)))) (searchOf (p .search)) (heldIn (places (now (list .entry))) (now (nodes .entry)) (now (edges .entry)) (places (now (scratch .entry))))) r (now (nodes .exit)) (now (edges .exit)) (places (now (list .exit))) (places (now (scratch .exit))) ⌝ }
+    ensures { λ r.
+        ⌜ Picks
+        (pick (askedFor (problemOf (now (weights .entry)) (now (profits .entry)) (ask .page) (ask .width)) (kindOf (ask .kind)) (searchOf (p .search)) (places (now (list .entry)))) (searchOf (p .search)) (heldIn (places (now (list .entry))) (now (nodes .entry)) (now (edges .entry)) (places (now (scratch .entry)))))
+        r (now (nodes .exit)) (now (edges .exit)) (places (now (list .exit))) (places (now (scratch .exit))) ⌝ }
 {
     let s = search::search_of(p);
     let n = search::opened_of(s);
@@ -97,7 +100,8 @@ fn goes_on(p: Picked) -> bool
     }
 }
 
-// The run, to its end: the verdict of the last call, and the search that it came to. Lists and tables hold what its calls left.
+// The run, to its end: the verdict of the last call and, if that was accepted, the search that it came to; of a refused run's search nothing is promised.
+// Lists and tables hold what its calls left.
 pub fn run(
     weights: &[u64],
     profits: &[u64],
@@ -107,7 +111,10 @@ pub fn run(
     scratch: &mut [Record],
     ask: Ask,
 ) -> Picked
-    ensures { λ p. ⌜ leftIn p (heldIn (places (now (list .exit))) (now (nodes .exit)) (now (edges .exit)) (places (now (scratch .exit)))) ≡ leftOf (problemOf (now (weights .entry)) (now (profits .entry)) (ask .page) (ask .width)) (kindOf (ask .kind)) (heldIn (places (now (list .entry))) (now (nodes .entry)) (now (edges .entry)) (places (now (scratch .entry)))) ⌝ }
+    ensures { λ p.
+        ⌜ leftIn p (heldIn (places (now (list .exit))) (now (nodes .exit)) (now (edges .exit)) (places (now (scratch .exit)))) ≡ leftOf
+        (problemOf (now (weights .entry)) (now (profits .entry)) (ask .page) (ask .width)) (kindOf (ask .kind))
+        (heldIn (places (now (list .entry))) (now (nodes .entry)) (now (edges .entry)) (places (now (scratch .entry)))) ⌝ }
 {
     let bound = least();
     let a = search::start(weights, profits, ask, bound, list);

@@ -1,4 +1,4 @@
-// The answer to a job's text over tables and lists of the sizes that the programs lend, said here and nowhere else: those of document 01, and larger ones.
+// The answer to a job's text over tables and lists of the sizes that the job programs lend: those of document 01, and larger ones.
 ghost use lib.ListN.{replicate};
 ghost use Rattle.compile_records.specs.Queried.{lentOf};
 ghost use Rattle.job.specs.Answered.{emptyPlaces, Answers};
@@ -20,7 +20,7 @@ const LARGE_NODE_WORDS: usize = 233904;
 
 const LARGE_EDGE_WORDS: usize = 216585;
 
-// The larger lists, which a stack of 8 MiB holds with the tables.
+// The larger lists, which a stack of 8 MiB holds with the tables: the longest that `job::answer` makes.
 const LARGE_OPEN_PLACES: usize = 16384;
 
 const LARGE_SCRATCH_PLACES: usize = 4096;

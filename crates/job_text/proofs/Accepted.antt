@@ -1,6 +1,6 @@
 -- Whatever the machine accepts is the text of the job that it read; and a text is that of one job at most.
 use mathlib.Core.Path.{_≡_, refl, sym, ap, subst, _∙_}
-use mathlib.Core.Bool.{Bool, true, false, cond, _&&_}
+use mathlib.Core.Bool.{Bool, true, false, cond}
 use mathlib.Core.List.{List, [], _∷_, _++_, append-assoc, append-nil}
 use Prim.Native.Nat.{ℕ, _<_, _≤_}
 use native.Mathlib.Omega.{arith}
@@ -10,6 +10,7 @@ use lib.ListN.{length}
 use borrow.Author.Tests.{eqb-true, eq-eqb}
 use Rattle.knapsack.specs.Items.{Item}
 use Rattle.diagram.specs.After4.{CutsetKind, lastExactLayer, frontier}
+use Rattle.theorems.proofs.Bool.{and-true, and-right}
 use Rattle.jobs.specs.Text.{Job, textOf, nineDigits, SmallItems, mostBytes, IsText}
 use Rattle.cutset.specs.declared.Kind.{Kind}
 use Rattle.cutset.specs.declared.Kind.the-variants.{LastExactLayer, Frontier as FrontierKind}
@@ -19,7 +20,7 @@ use Rattle.job_text.specs.declared.Part.the-variants.{CapWord, Page, Wid
 use Rattle.job_text.specs.declared.Place.{Place}
 use Rattle.job_text.specs.declared.Head.{Head}
 use Rattle.job_text.specs.declared.Reader.{Reader}
-use Rattle.job_text.specs.Machine.{nextFrom, nextOf, headOf, isItemWord, endsItem, State, state, begun, movedTo, stepOf, runFrom, runOf, wholeAt}
+use Rattle.job_text.specs.Machine.{nextFrom, nextOf, headOf, isItemWord, endsItem, State, begun, movedTo, stepOf, runFrom, runOf, wholeAt}
 use Rattle.job_text.specs.Kept.{room, weightsIn, Holds, HasRead}
 use Rattle.job_text.specs.Reads.{kindFrom, readOf, nothingRead, readFrom, endedOf, Found, Reads}
 use Rattle.job_text.proofs.Lines.{Whole, text-run}
@@ -136,7 +137,7 @@ accepted t fits part-is at-start =
       short = fits;
     }
 
-kind-back : (k : CutsetKind) → kindOf (kindFrom k) ≡ k
+pub kind-back : (k : CutsetKind) → kindOf (kindFrom k) ≡ k
 kind-back lastExactLayer = refl
 kind-back frontier = refl
 
@@ -158,14 +159,6 @@ job-held s j whole =
 pub one-job : (t : List ℕ) (j k : Job) → IsText t j → IsText t k → j ≡ k
 one-job t j k is-j is-k = sym (job-held (runOf t) j (text-run t j is-j)) ∙ job-held (runOf t) k (text-run t k is-k)
 
-and-left : (a b : Bool) → a && b ≡ true → a ≡ true
-and-left true b e = refl
-and-left false b e = e
-
-and-right : (a b : Bool) → a && b ≡ true → b ≡ true
-and-right true b e = e
-and-right false b e = absurd (let z : _≡_ {A = ℕ} 0 1 = cc in omega arith)
-
 is-item-word : (part : Part) → isItemWord part ≡ true → part ≡ ItemWord
 unfolding isItemWord
 is-item-word CapWord e = cc
@@ -183,7 +176,7 @@ is-item-word Fault e = cc
 
 whole-part : (p : Place) → wholeAt p ≡ true → p .part ≡ ItemWord
 unfolding wholeAt
-whole-part p e = is-item-word (p .part) (and-left (isItemWord (p .part)) (eqb (p .at) 0) e)
+whole-part p e = is-item-word (p .part) (and-true (isItemWord (p .part)) (eqb (p .at) 0) e)
 
 whole-start : (p : Place) → wholeAt p ≡ true → p .at ≡ 0
 unfolding wholeAt

@@ -125,10 +125,6 @@ run-more t b = run-two t (b ∷ []) begun ∙ one (runFrom t begun) b
 longer : (t : List ℕ) (b : ℕ) → length (t ++ (b ∷ [])) ≡ length t + 1
 longer t b = length-append t (b ∷ [])
 
--- What a reader holds, as facts on numbers.
-bytes-are : (t : List ℕ) (r : Reader) → HasRead t r → length t ≤ mostBytes → r .bytes ≡ length t
-bytes-are t r has h = has .short h .1
-
 -- The reader that has read nothing, and the one behind each byte.
 pub begins : (r : Reader) → Holds begun r → r .bytes ≡ 0 → HasRead [] r
 unfolding runOf runFrom

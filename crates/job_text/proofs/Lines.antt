@@ -9,7 +9,7 @@ use Rattle.jobs.specs.Text.{Job, cap, width, cut, item, LF, TAB, line, line3, c
 use Rattle.cutset.specs.declared.Kind.{Kind}
 use Rattle.job_text.specs.declared.Part.the-variants.{CapWord, Page, WidthWord, Width, CutWord, ItemWord, Weight, Profit}
 use Rattle.job_text.specs.declared.Head.{Head}
-use Rattle.job_text.specs.Machine.{place, spelledOf, closedOf, countedOf, chosenOf, nextFrom, nextOf, headOf, isItemWord, endsItem, State, state, begun, movedTo, stepOf, runFrom, runOf}
+use Rattle.job_text.specs.Machine.{spelledOf, closedOf, countedOf, chosenOf, nextFrom, nextOf, headOf, isItemWord, endsItem, State, begun, movedTo, stepOf, runFrom, runOf}
 use Rattle.job_text.specs.Reads.{kindFrom}
 use Rattle.job_text.proofs.Runs.{run-two, page, wide, weight, profit, at, number-then}
 
@@ -82,10 +82,6 @@ pub record Whole (s : State) (c w : ℕ) (k : Kind) (is : List Item) : Type 0 wh
   pub width-is : s .head .width ≡ w
   pub kind-is : s .head .kind ≡ k
   pub items-are : s .items ≡ is
-
-run-none : (s : State) → runFrom [] s ≡ s
-unfolding runFrom
-run-none s = refl
 
 items-run : (js : List Item) → SmallItems js → (m c w x : ℕ) (k : Kind) (is : List Item) → Whole (runFrom (itemsText js) (at ItemWord 0 m (headWith c w k x) is)) c w k (is ++ js)
 unfolding itemsText runFrom

@@ -15,9 +15,8 @@ use Rattle.job_text.specs.declared.Part.{Part}
 use Rattle.job_text.specs.declared.Part.the-variants.{CapWord, Page, WidthWord, Width, CutWord, Choice, Lel, Frontier, ItemWord, Weight, Profit, Fault}
 use Rattle.job_text.specs.declared.Place.{Place}
 use Rattle.job_text.specs.declared.Head.{Head}
-use Rattle.job_text.specs.Machine.{place, faulted, spelledOf, pushedOf, countedOf, State, state}
+use Rattle.job_text.specs.Machine.{place, faulted, spelledOf, pushedOf, countedOf, State}
 use Rattle.job_text.proofs.Branches.{spelled-past, spelled-wrong, spelled-on, spelled-out, pushed-below, pushed-above, pushed-first, pushed-leading, pushed-tenth, pushed-more, closed-empty, closed-some, counted-end, counted-digit}
-use Rattle.job_text.proofs.Runs.{at}
 
 -- the job as far as it was read
 abbrev pub jobOf : Head → List Item → Job

@@ -1,7 +1,7 @@
 -- The reader of a job's text as a machine of one step a byte. It keeps every item.
 use mathlib.Core.Bool.{Bool, true, false, cond, _&&_}
 use mathlib.Core.List.{List, [], _∷_, _++_}
-use Prim.Native.Nat.{ℕ, zero, _+_, _-_, _*_}
+use Prim.Native.Nat.{ℕ, _+_, _-_, _*_}
 use lib.Dec.{eqb, ltb}
 use lib.ListN.{length, getD}
 use Rattle.knapsack.specs.Items.{Item}
@@ -36,6 +36,7 @@ grown p d =
     (place (p .part) 1 d)
     (cond (eqb (p .number) 0) faulted (cond (ltb (p .number * 10 + d) nineDigits) (place (p .part) 1 (p .number * 10 + d)) faulted))
 
+-- one byte more of a number; 48 is the digit 0
 unfoldable pub pushedOf : Place → ℕ → Place
 pushedOf p b = cond (isDigit b) (grown p (b - 48)) faulted
 
@@ -47,7 +48,7 @@ closedOf p then = cond (eqb (p .at) 0) faulted (place then 0 (p .number))
 unfoldable pub countedOf : Place → ℕ → ℕ → Part → Place
 countedOf p b end then = cond (eqb b end) (closedOf p then) (pushedOf p b)
 
--- the first letter of the cutset's name
+-- the first letter of the cutset's name: 108 is l, 102 is f
 unfoldable pub chosenOf : Place → ℕ → Place
 chosenOf p b = cond (eqb b 108) (place Lel 1 (p .number)) (cond (eqb b 102) (place Frontier 1 (p .number)) faulted)
 

@@ -1,4 +1,5 @@
-// A job's text, read byte by byte: the place in the grammar, the number that is being read, and the job as far as it was read.
+// A job's text, read byte by byte: the place in the grammar, the number that is being read, and the job as far as it was read. `read` takes a whole text;
+// `begin`, `step` and `ended` take one that comes a byte at a time.
 ghost use mathlib.Core.Path.{_≡_};
 ghost use mathlib.Core.List.{List, [], _∷_, _++_};
 ghost use Prim.Native.Nat.{ℕ, _<_};

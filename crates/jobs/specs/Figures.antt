@@ -1,16 +1,16 @@
--- 'Case R, whole', and the refusals that a job's run can meet, from a job to its answer's bytes, and to what is left in lists and tables.
+-- 'Case R, whole', and the refusals that a job's run can meet, from a job to its answer's bytes, and to what is left in lists and tables; the limits of job text; which record is picked.
 use mathlib.Core.Path.{_≡_}
-use mathlib.Core.List.{List, [], _∷_}
-use Prim.Native.Nat.{ℕ}
-use lib.IntN.{pos}
-use lib.ListN.{replicate}
+use mathlib.Core.List.{List, [], _∷_, List·Memᴰ}
+use Prim.Native.Nat.{ℕ, _≤_}
+use lib.IntN.{pos, negsuc}
+use lib.ListN.{length, replicate}
 use Rattle.knapsack.specs.Items.{Item}
-use Rattle.diagram.specs.After4.{lastExactLayer}
+use Rattle.diagram.specs.After4.{lastExactLayer, frontier}
 use Rattle.searches.specs.Places.{Place}
 use Rattle.searches.specs.Compile.{Lent}
 use Rattle.searches.specs.Pick.{Held}
-use Rattle.jobs.specs.Text.{Job, textOf}
-use Rattle.jobs.specs.Run.{run}
+use Rattle.jobs.specs.Text.{Job, textOf, IsText}
+use Rattle.jobs.specs.Run.{largest, run}
 use Rattle.jobs.specs.Left.{leftBy}
 use Rattle.jobs.specs.Page.{answerOf}
 
@@ -39,8 +39,41 @@ CaseR =
     -- Case R: a scratch place short, and no place for the root
     × ((answer R (lend 72 60 1) 2 ≡ 114 ∷ 101 ∷ 102 ∷ 117 ∷ 115 ∷ 101 ∷ 100 ∷ 9 ∷ 49 ∷ 51 ∷ 10 ∷ []) × (answer R (lend 72 60 2) 0 ≡ 114 ∷ 101 ∷ 102 ∷ 117 ∷ 115 ∷ 101 ∷ 100 ∷ 9 ∷ 49 ∷ 51 ∷ 10 ∷ []))
 
+-- a job of one item with the frontier
+abbrev asked : ℕ → ℕ → ℕ → ℕ → Job
+asked page width weight profit = record { page = page; width = width; kind = frontier; items = block weight profit ∷ [] }
+
+-- The text of such a job, and the limits of the grammar: 'one to nine digits', 'Text above 65,535 bytes is outside too'.
+abbrev pub TextLimits : Type 0
+TextLimits =
+    -- the text: cap 0, width 10, cut frontier, item 7 90
+    (textOf (asked 0 10 7 90) ≡ 99 ∷ 97 ∷ 112 ∷ 9 ∷ 48 ∷ 10 ∷ 119 ∷ 105 ∷ 100 ∷ 116 ∷ 104 ∷ 9 ∷ 49 ∷ 48 ∷ 10 ∷ 99 ∷ 117 ∷ 116 ∷ 9 ∷ 102 ∷ 114 ∷ 111 ∷ 110 ∷ 116 ∷ 105 ∷ 101 ∷ 114 ∷ 10 ∷ 105 ∷ 116 ∷ 101 ∷ 109 ∷ 9 ∷ 55 ∷ 9 ∷ 57 ∷ 48 ∷ 10 ∷ [])
+    -- the largest number in each field is inside
+    × ((t : List ℕ) → t ≡ textOf (asked 999999999 999999999 999999999 999999999) → length t ≤ 65535 → IsText t (asked 999999999 999999999 999999999 999999999))
+    -- and no larger one is
+    × ((t : List ℕ) (j : Job) → IsText t j → (j .page ≤ 999999999) × (j .width ≤ 999999999))
+    × ((t : List ℕ) (j : Job) → IsText t j → (i : Item) → List·Memᴰ i (j .items) → (i .weight ≤ 999999999) × (i .profit ≤ 999999999))
+    × ((t : List ℕ) (j : Job) → IsText t j → length t ≤ 65535)
+
 abbrev place : ℕ → ℕ → ℕ → ℕ → List ℕ → Place
 place capacity value bound depth bytes = record { capacity = capacity; value = pos value; bound = pos bound; depth = depth; bytes = bytes }
+
+-- a record of that value and bound, below 0: n is -1 - n
+abbrev below : ℕ → Place
+below n = record { capacity = 1; value = pos 0; bound = negsuc n; depth = 0; bytes = [] }
+
+-- 'picks the largest bound, lowest place on a tie', whatever the values are
+abbrev pub LargestFirst : Type 0
+LargestFirst =
+    -- the first, the second and the last of three
+    (largest (place 1 0 5 0 [] ∷ place 1 9 4 0 [] ∷ place 1 9 3 0 [] ∷ []) ≡ 0)
+    × (largest (place 1 9 3 0 [] ∷ place 1 0 5 0 [] ∷ place 1 9 4 0 [] ∷ []) ≡ 1)
+    × (largest (place 1 9 3 0 [] ∷ place 1 9 4 0 [] ∷ place 1 0 5 0 [] ∷ []) ≡ 2)
+    -- on a tie the lower place
+    × (largest (place 1 0 5 0 [] ∷ place 1 9 5 0 [] ∷ place 1 9 3 0 [] ∷ []) ≡ 0)
+    × (largest (place 1 9 3 0 [] ∷ place 1 0 5 0 [] ∷ place 1 9 5 0 [] ∷ []) ≡ 1)
+    -- bounds below 0
+    × (largest (below 4 ∷ below 2 ∷ below 3 ∷ []) ≡ 1)
 
 abbrev lentFor : Lent → ℕ → Held
 lentFor l places = record { list = replicate places old; lent = l }

@@ -1,4 +1,4 @@
--- 'Oracle and job text': the text of a job. Each job has one text, so a text is that of one job at most.
+-- 'Oracle and job text': the one text that a job has. That a text is that of one job at most is the law `one-job` of job_text/proofs/Accepted.antt.
 use mathlib.Core.Path.{_≡_}
 use mathlib.Core.List.{List, [], _∷_, _++_}
 use Prim.Native.Nat.{ℕ, _<_, _≤_}

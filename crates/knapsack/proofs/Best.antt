@@ -119,6 +119,3 @@ pub optimum-unique :
     (items : List Item) (capacity x y : ℕ) → Optimum items capacity x → Optimum items capacity y → x ≡ y
 optimum-unique items c x y a b =
     omega (arith, a .most (b .earned .selection) (b .earned .fits), b .most (a .earned .selection) (a .earned .fits))
-
-pub optimum-is-best : (items : List Item) (capacity x : ℕ) → Optimum items capacity x → x ≡ best items capacity
-optimum-is-best items c x a = optimum-unique items c x (best items c) a (best-is-optimum items c)

@@ -1,4 +1,4 @@
--- The four laws of the fast bound, which are all that proofs outside may use of it.
+-- The four laws of the fast bound: all that proofs outside use of it, but for `blocks`, which computes it and opens it.
 use Prim.Native.Nat.{ℕ, _+_, _-_, _≤_}
 use mathlib.Core.Path.{_≡_, refl}
 use mathlib.Core.Logic.{⊎-elim, by-cases}

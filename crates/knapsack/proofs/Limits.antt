@@ -6,7 +6,7 @@ use native.Mathlib.Omega.{arith}
 use native.Mathlib.Numerals.{add-one}
 use lib.ListN.{length, getD, drop}
 use lib.Seq.{drop-cons}
-use Rattle.knapsack.specs.Items.{Item, itemsOf, counted}
+use Rattle.knapsack.specs.Items.{Item, noItem, itemsOf, counted}
 use Rattle.knapsack.specs.FastBound.{totalProfit}
 use Rattle.knapsack.specs.Limits.{InLimits}
 
@@ -17,7 +17,7 @@ length-items (w ∷ ws) [] e = absurd (omega arith)
 length-items (w ∷ ws) (p ∷ ps) e = ap suc (length-items ws ps (omega arith))
 
 -- item d has weight d and profit d; past the end both are 0
-pub item-at : (ws ps : List ℕ) (d : ℕ) → length ws ≡ length ps → getD (itemsOf ws ps) d (record { weight = 0; profit = 0 }) ≡ record { weight = getD ws d 0; profit = getD ps d 0 }
+pub item-at : (ws ps : List ℕ) (d : ℕ) → length ws ≡ length ps → getD (itemsOf ws ps) d noItem ≡ record { weight = getD ws d 0; profit = getD ps d 0 }
 unfolding itemsOf
 item-at [] [] d e = refl
 item-at [] (p ∷ ps) d e = absurd (omega arith)
@@ -29,7 +29,7 @@ item-at (w ∷ ws) (p ∷ ps) (suc d) e = item-at ws ps d (omega arith)
 pub items-from : (ws ps : List ℕ) (d : ℕ) → length ws ≡ length ps → d < length ws → drop d (itemsOf ws ps) ≡ record { weight = getD ws d 0; profit = getD ps d 0 } ∷ drop (d + 1) (itemsOf ws ps)
 items-from ws ps d e h =
     let l : d < length (itemsOf ws ps) = omega (arith, length-items ws ps e) in
-    rw (add-one, drop-cons (itemsOf ws ps) d (record { weight = 0; profit = 0 }) l, item-at ws ps d e)
+    rw (add-one, drop-cons (itemsOf ws ps) d noItem l, item-at ws ps d e)
 
 -- a limit for each profit is one for their sum
 total-limit : (ws ps : List ℕ) → ((d : ℕ) → getD ps d 0 ≤ 1000000) → totalProfit (itemsOf ws ps) ≤ 1000000 * length ws
@@ -48,7 +48,7 @@ drop-less (i ∷ is) (suc d) = omega (arith, drop-less is d)
 pub total-in-limits : (ws ps : List ℕ) (d : ℕ) → InLimits ws ps → totalProfit (drop d (itemsOf ws ps)) ≤ 64000000
 total-in-limits ws ps d h = omega (arith, drop-less (itemsOf ws ps) d, total-limit ws ps (h .cheap), h .few)
 
--- a weight in its limit never counts for more than a power of two just above the limit, with room for padding
+-- a weight in its limit counts for 65,536 at most: sums of 64 of them stay small, and a rule that rounds weights up has room
 pub counted-in-limits : (w : ℕ) → w ≤ 65535 → counted w ≤ 65536
 unfolding counted
 counted-in-limits w h = omega arith

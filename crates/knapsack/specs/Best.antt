@@ -5,7 +5,7 @@ use mathlib.Core.List.{List, [], _∷_}
 use lib.Dec.{leb}
 use Rattle.knapsack.specs.Items.{Item, counted}
 
--- Document 01, "The block problem", "take first (only if the weight fits), then skip. Take costs the profit, skip costs 0": the better of the two.
+-- the better of the two decisions: 'take … (only if the weight fits), then skip. Take costs the profit, skip costs 0.'
 unfoldable pub best : List Item → ℕ → ℕ
 best [] capacity = 0
 best (i ∷ is) capacity =

@@ -5,12 +5,12 @@ use mathlib.Core.List.{List, [], _∷_}
 use lib.Dec.{leb}
 use Rattle.knapsack.specs.Items.{Item, counted}
 
--- Document 01, "The block problem": "the sum of profits of items d and later whose own weight is at most the capacity left".
+-- 'the sum of profits of items d and later whose own weight is at most the capacity left'
 unfoldable pub fastBound : List Item → ℕ → ℕ
 fastBound [] capacity = 0
 fastBound (i ∷ is) capacity = cond (leb (counted (i .weight)) capacity) (i .profit) 0 + fastBound is capacity
 
--- Document 01, "The block problem": "the sum of profits of items d and later", whatever their weight.
+-- the sum of all profits, whatever the weights
 unfoldable pub totalProfit : List Item → ℕ
 totalProfit [] = 0
 totalProfit (i ∷ is) = i .profit + totalProfit is

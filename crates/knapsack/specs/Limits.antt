@@ -4,7 +4,7 @@ use mathlib.Core.Path.{_≡_}
 use mathlib.Core.List.{List}
 use lib.ListN.{length, getD}
 
--- Document 01, "The block problem", "refusals 2 to 6 give the limits": none of 1, 2, 4 and 5 applies. Past a list's end `getD` gives 0, so each d is in its limit.
+-- 'refusals 2 to 6 give the limits': none of 1, 2, 4 and 5 applies. Past a list's end `getD` gives 0, so each d is in its limit.
 pub record InLimits (weights profits : List ℕ) : Type 0 where
   pub paired : length weights ≡ length profits
   pub few : length weights ≤ 64

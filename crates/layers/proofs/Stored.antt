@@ -1,6 +1,6 @@
 -- A layer more leaves those below it alone; the last exact layer is the newest one at the first squash.
-use mathlib.Core.Path.{_≡_, refl, ap, _∙_}
-use mathlib.Core.List.{List, [], _∷_}
+use mathlib.Core.Path.{_≡_, refl, _∙_}
+use mathlib.Core.List.{List, _∷_}
 use Prim.Native.Nat.{ℕ, zero, suc, _+_, _-_, _<_, _≤_}
 use native.Mathlib.Omega.{arith}
 use lib.ListN.{length, getD, set, replicate, length-set}
@@ -12,7 +12,7 @@ use Rattle.layers.specs.declared.Last.{Last}
 use Rattle.layers.specs.declared.Last.the-variants.{Unsquashed, After}
 use Rattle.layers.specs.Stored.{range, firstOnes, stored, Sized, lastOf}
 
-pub below-kept : (from to : List ℕ) (k a b n : ℕ) → n ≤ k → firstOnes (set from k a) (set to k b) n ≡ firstOnes from to n
+below-kept : (from to : List ℕ) (k a b n : ℕ) → n ≤ k → firstOnes (set from k a) (set to k b) n ≡ firstOnes from to n
 unfolding firstOnes
 below-kept from to k a b zero h = refl
 below-kept from to k a b (suc n) h =
@@ -23,7 +23,7 @@ unfolding firstOnes
 one-more from to k a b h l = rw (getD-set-same from k a 0 h, getD-set-same to k b 0 l, below-kept from to k a b k (omega arith))
 
 -- places of 0 stay 0 behind the one that is written
-pub clear-kept : (xs : List ℕ) (k a : ℕ) → ((i : ℕ) → k ≤ i → getD xs i 0 ≡ 0) → (i : ℕ) → suc k ≤ i → getD (set xs k a) i 0 ≡ 0
+clear-kept : (xs : List ℕ) (k a : ℕ) → ((i : ℕ) → k ≤ i → getD xs i 0 ≡ 0) → (i : ℕ) → suc k ≤ i → getD (set xs k a) i 0 ≡ 0
 clear-kept xs k a h i l = getD-set-other xs k i a 0 (omega arith) ∙ h i (omega arith)
 
 pub zeros : (n i : ℕ) → getD {A = ℕ} (replicate n 0) i 0 ≡ 0
@@ -41,7 +41,7 @@ push-sized l a b z =
     }
 
 -- the newest stored layer
-pub newest-is : (from to : List ℕ) (n : ℕ) → 0 < n → firstOnes from to n ≡ range (getD from (n - 1) 0) (getD to (n - 1) 0) ∷ firstOnes from to (n - 1)
+newest-is : (from to : List ℕ) (n : ℕ) → 0 < n → firstOnes from to n ≡ range (getD from (n - 1) 0) (getD to (n - 1) 0) ∷ firstOnes from to (n - 1)
 unfolding firstOnes
 newest-is from to zero h = absurd (omega arith)
 newest-is from to (suc n) h = let e : suc n - 1 ≡ n = omega arith in rw e refl

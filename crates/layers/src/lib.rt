@@ -1,16 +1,17 @@
 // The stored layers of a diagram, each a range of rows, by value: the Rust's Vec<Layer>; and which of them is the last exact one.
 ghost use mathlib.Core.Path.{_≡_};
-ghost use mathlib.Core.List.{List, [], _∷_};
-ghost use Prim.Native.Nat.{ℕ, _+_, _<_, _≤_};
+ghost use mathlib.Core.List.{[], _∷_};
+ghost use Prim.Native.Nat.{_+_, _<_, _≤_};
 ghost use Rattle.diagram.specs.Rule5.{nameLast};
 ghost use Rattle.layers.specs.Stored.{Sized, stored, range, lastOf};
 
 // One for each depth from 0 to 64.
 pub const MOST: usize = 65;
 
+// Layer i, the oldest first, has the rows from[i] .. to[i]. Places past the count hold 0, so that equal layers are equal values.
 pub struct Layers {
-    pub from: [usize; 65],
-    pub to: [usize; 65],
+    pub from: [usize; MOST],
+    pub to: [usize; MOST],
     pub count: usize,
 }
 
@@ -20,12 +21,13 @@ pub enum Last {
     After(usize, usize),
 }
 
+// No layer yet.
 pub fn none() -> Layers
     ensures { λ r. ⌜ Sized r × ((stored r ≡ []) × (r .count ≡ 0)) ⌝ }
 {
     Layers {
-        from: [0; 65],
-        to: [0; 65],
+        from: [0; MOST],
+        to: [0; MOST],
         count: 0,
     }
 }

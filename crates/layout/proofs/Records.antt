@@ -1,10 +1,10 @@
 -- Encoding and decoding a record are inverse where its path has as many bytes as its depth says, and a record is stored behind others where every path has room.
-use mathlib.Core.Path.{_≡_, refl, ap}
+use mathlib.Core.Path.{_≡_, refl}
 use mathlib.Core.List.{List, [], _∷_, _++_}
 use Prim.Native.Nat.{ℕ, suc, _-_, _*_, _≤_}
 use native.Mathlib.Nat.{suc-mul}
 use native.Mathlib.Omega.{arith}
-use lib.ListN.{length, replicate, take, length-append, length-replicate}
+use lib.ListN.{length, replicate, length-append, length-replicate}
 use lib.Seq.{take-at, sets}
 use Rattle.diagram.specs.Record.{Record, pathRoom, padded}
 use Rattle.layout.specs.Table.{wordsOf, over}
@@ -39,3 +39,8 @@ roomy-snoc (q ∷ rs) r h k = (h .0, roomy-snoc rs r (h .1) k)
 pub record-behind : (rs : List Record) (old : List ℕ) (r : Record) → Roomy rs → length (r .path) ≤ pathRoom → suc (length rs) * recordWords ≤ length old → sets (over (recordTable rs) old) (length rs * recordWords) (encodeRecord r) ≡ over (recordTable (rs ++ (r ∷ []))) old
 unfolding recordTable
 record-behind rs old r h k l = stored-behind encodeRecord recordWords rs old r (records-length rs h) (record-length r k) l
+
+-- no records, written over a list, leave it
+pub over-none : (list : List ℕ) → over (recordTable []) list ≡ list
+unfolding over recordTable wordsOf
+over-none list = refl

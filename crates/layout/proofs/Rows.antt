@@ -1,12 +1,21 @@
--- Encoding and decoding a row are inverse to each other.
+-- A row's words are as many as its width says, and encoding and decoding are inverse to each other.
 use mathlib.Core.Path.{_≡_, refl, ap, _∙_}
 use mathlib.Core.Bool.{Bool, true, false}
-use mathlib.Core.List.{List, [], _∷_}
+use mathlib.Core.List.{[], _∷_}
 use Prim.Native.Nat.{ℕ, zero, suc, _+_, _*_, _/_, _%_, _≤_, _<_}
 use native.Mathlib.Omega.{arith}
 use lib.Dec.{eqb}
+use lib.ListN.{length}
 use Rattle.diagram.specs.Node.{Node, Edge}
-use Rattle.layout.specs.Rows.{exactFlag, relaxedFlag, markedFlag, cutsetFlag, deletedFlag, digit, flagsWord, hasFlag, encodeNode, decodeNode, encodeEdge, decodeEdge}
+use Rattle.layout.specs.Rows.{nodeWords, edgeWords, exactFlag, relaxedFlag, markedFlag, cutsetFlag, deletedFlag, digit, flagsWord, hasFlag, encodeNode, decodeNode, encodeEdge, decodeEdge}
+
+pub node-width : (n : Node) → length (encodeNode n) ≡ nodeWords
+unfolding encodeNode
+node-width n = refl
+
+pub edge-width : (e : Edge) → length (encodeEdge e) ≡ edgeWords
+unfolding encodeEdge
+edge-width e = refl
 
 digit-small : (b : Bool) → digit b ≤ 1
 unfolding digit

@@ -1,7 +1,7 @@
 -- Laws of a table of rows of one width, for any kind of row: a word read, a row replaced, a row appended, the part from a row on.
-use mathlib.Core.Path.{_≡_, refl, sym, ap, subst, _∙_}
+use mathlib.Core.Path.{_≡_, refl, sym, ap, _∙_}
 use mathlib.Core.List.{List, [], _∷_, _++_, append-assoc, append-nil}
-use Prim.Native.Nat.{ℕ, zero, suc, _+_, _-_, _*_, _<_, _≤_}
+use Prim.Native.Nat.{ℕ, zero, suc, _+_, _*_, _<_, _≤_}
 use native.Mathlib.Nat.{suc-mul, zero-mul, mul-le-mul-right, le-of-suc-le-suc, not-suc-le-zero}
 use native.Mathlib.Omega.{arith}
 use lib.ListN.{length, getD, set, take, drop, length-append, length-drop, length-set, take-append-drop, List·getD-append}
@@ -15,7 +15,7 @@ drops : (a m old : List ℕ) (n k : ℕ) → length a ≡ n → length m ≡ k �
 drops a m old n k p q =
     rw (← p, ← q, drop-append-add a (drop (length a) old) (length m), drop-drop (length m) (length a) old, length-append a m)
 
--- a row behind rows whose words are together as many as rows of one width have, whatever each of them has
+-- a row behind others: of those is asked only that together they have as many words as rows of width w, so that this serves records too, whose width comes from their paths
 module _ {R : Type 0} (encode : R → List ℕ) where
   pub words-join : (rs ts : List R) → wordsOf encode (rs ++ ts) ≡ wordsOf encode rs ++ wordsOf encode ts
   unfolding wordsOf
@@ -54,10 +54,6 @@ module _ {R : Type 0} (encode : R → List ℕ) (w : ℕ) (fixed : (r : R) → l
       let z : suc r * w + k ≡ length (encode x) + (r * w + k) = omega (arith, suc-mul r w, fixed x) in
       rw (z, append-assoc) (getD-append-add (encode x) (wordsOf encode rs ++ rest) (r * w + k) 0 ∙ word-at none rs rest r k (le-of-suc-le-suc h) l)
 
-  -- the words up to row r, and those from it on
-  pub words-append : (rs ts : List R) → wordsOf encode (rs ++ ts) ≡ wordsOf encode rs ++ wordsOf encode ts
-  words-append rs ts = words-join encode rs ts
-
   -- a row replaced
   replaced-in : (rs : List R) (rest : List ℕ) (r : ℕ) (m : R) → r < length rs → take (r * w) (wordsOf encode rs ++ rest) ++ encode m ++ drop (r * w + w) (wordsOf encode rs ++ rest) ≡ wordsOf encode (set rs r m) ++ rest
   unfolding wordsOf
@@ -78,19 +74,11 @@ module _ {R : Type 0} (encode : R → List ℕ) (w : ℕ) (fixed : (r : R) → l
       let e : length (wordsOf encode (set rs r m)) ≡ length (wordsOf encode rs) = length-words (set rs r m) ∙ ap (λ (k : ℕ). k * w) (length-set rs r m) ∙ sym (length-words rs) in
       rw e (replaced-in rs (drop (length (wordsOf encode rs)) old) r m h)
 
-  -- a row appended
-  pub row-appended : (rs : List R) (old : List ℕ) (m : R) → take (length rs * w) (over (wordsOf encode rs) old) ++ encode m ++ drop (length rs * w + w) (over (wordsOf encode rs) old) ≡ over (wordsOf encode (rs ++ (m ∷ []))) old
-  row-appended rs old m = row-behind encode w rs old m (length-words rs) (fixed m)
-
-  -- the same of a row's words stored one by one
-  pub length-over : (rs : List R) (old : List ℕ) → length rs * w ≤ length old → length (over (wordsOf encode rs) old) ≡ length old
-  unfolding over
-  length-over rs old h = simp (length-append, length-drop, length-words rs) (omega arith)
-
   row-fits : (rs : List R) (old : List ℕ) (r : ℕ) → r < length rs → r * w + w ≤ length (over (wordsOf encode rs) old)
   unfolding over
   row-fits rs old r h = simp (length-append, length-words rs) (omega (arith, suc-mul r w, mul-le-mul-right w h))
 
+  -- a row replaced, and one appended, by its words stored one by one
   pub stored-replaced : (rs : List R) (old : List ℕ) (r : ℕ) (m : R) → r < length rs → sets (over (wordsOf encode rs) old) (r * w) (encode m) ≡ over (wordsOf encode (set rs r m)) old
   stored-replaced rs old r m h =
       sets-eq (encode m) (over (wordsOf encode rs) old) (r * w) (rw fixed (row-fits rs old r h))
@@ -105,7 +93,7 @@ module _ {R : Type 0} (encode : R → List ℕ) (w : ℕ) (fixed : (r : R) → l
   part-from rs old k h =
       let A = wordsOf encode (take k rs) in
       let B = wordsOf encode (drop k rs) in
-      let s : wordsOf encode rs ≡ A ++ B = ap (wordsOf encode) (sym (take-append-drop k rs)) ∙ words-append (take k rs) (drop k rs) in
+      let s : wordsOf encode rs ≡ A ++ B = ap (wordsOf encode) (sym (take-append-drop k rs)) ∙ words-join encode (take k rs) (drop k rs) in
       let l : length A ≡ k * w = length-words (take k rs) ∙ ap (λ (n : ℕ). n * w) (length-take-le k rs h) in
       rw (s, append-assoc A B, drop-at A (B ++ drop (length (A ++ B)) old) (k * w) l, length-append A B, l, drop-drop (length B) (k * w) old)
 
@@ -115,7 +103,7 @@ module _ {R : Type 0} (encode : R → List ℕ) (w : ℕ) (fixed : (r : R) → l
       let A = wordsOf encode (take k rs) in
       let B = wordsOf encode (drop k rs) in
       let T = wordsOf encode ts in
-      let s : wordsOf encode rs ≡ A ++ B = ap (wordsOf encode) (sym (take-append-drop k rs)) ∙ words-append (take k rs) (drop k rs) in
+      let s : wordsOf encode rs ≡ A ++ B = ap (wordsOf encode) (sym (take-append-drop k rs)) ∙ words-join encode (take k rs) (drop k rs) in
       let l : length A ≡ k * w = length-words (take k rs) ∙ ap (λ (n : ℕ). n * w) (length-take-le k rs h) in
-      rw (s, append-assoc A B, take-at A (B ++ drop (length (A ++ B)) old) (k * w) l, words-append (take k rs) ts, length-append A T, l, ← drop-drop (length T) (k * w) old)
+      rw (s, append-assoc A B, take-at A (B ++ drop (length (A ++ B)) old) (k * w) l, words-join encode (take k rs) ts, length-append A T, l, ← drop-drop (length T) (k * w) old)
       (sym (append-assoc A T (drop (length T) (drop (k * w) old))))

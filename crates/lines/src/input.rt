@@ -42,7 +42,7 @@ pub fn stopped(state: State) -> Input {
     }
 }
 
-// Whether a request, or what is left of it, was read whole.
+// Whether the reading goes on: every number that was asked for so far was there.
 pub fn is_reading(i: Input) -> bool {
     let state = i.state;
     let State::Reading = state else {

@@ -6,7 +6,7 @@ pub mod tables;
 ghost use Prim.Native.Nat.{_≤_};
 use refusals::Verdict;
 
-// A verdict's number, 0 for none.
+// The refusal's number, 0 for accepted.
 pub fn number_of(v: Verdict) -> u64 {
     match v {
         Verdict::Accepted => 0,

@@ -15,7 +15,7 @@ pub fn fill(table: &mut [u64], start: u64, step: u64) {
 }
 
 // How many words there are up to the last that isn't as before.
-pub fn changed(table: &[u64], start: u64, step: u64) -> usize
+fn changed(table: &[u64], start: u64, step: u64) -> usize
     ensures { λ r. ⌜ Counts r (now (table .entry)) ⌝ }
 {
     let mut old = start;

@@ -14,13 +14,15 @@ digitsIn (suc k) n = cond (ltb n 10) ((48 + n) ∷ []) (digitsIn k (n / 10) ++ (
 unfoldable pub decimal : ℕ → List ℕ
 decimal n = digitsIn 20 n
 
+-- an ASCII digit, '0' to '9'
 unfoldable pub isDigit : ℕ → Bool
 isDigit b = leb 48 b && leb b 57
 
--- the number whose digits are those of v and then the byte; none where the byte is no digit or a u64 can't hold the number
+-- the number whose digits are those of v and then the byte b; none where the byte is no digit or a u64 can't hold the number
 unfoldable pub pushed : ℕ → ℕ → Option ℕ
 pushed v b = cond (isDigit b && ltb (v * 10 + (b - 48)) 18446744073709551616) (some (v * 10 + (b - 48))) none
 
+-- one byte more, where a number was read before it
 unfoldable pub andThen : Option ℕ → ℕ → Option ℕ
 andThen none b = none
 andThen (some v) b = pushed v b

@@ -30,6 +30,7 @@ pub fn push(value: u64, byte: u8) -> Number
     Number::Is(value * 10 + digit)
 }
 
+// The byte as a u64.
 fn wide(byte: u8) -> u64
     ensures { λ r. ⌜ r ≡ byte ⌝ }
 {

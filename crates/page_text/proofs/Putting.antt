@@ -4,18 +4,14 @@ use mathlib.Core.List.{List, [], _∷_, _++_, append-assoc}
 use Prim.Native.Nat.{ℕ, zero, suc, _+_, _-_, _≤_, _<_}
 use native.Mathlib.Omega.{arith}
 use native.Mathlib.Numerals.{add-one}
-use lib.ListN.{length, replicate, set, getD, take, drop, length-append, length-take, length-drop, take-append-drop}
-use lib.Seq.{paste, paste-suc, take-length, take-at, drop-at, drop-drop, set-split}
+use lib.ListN.{length, replicate, set, take, drop, length-append, length-take, length-drop, take-append-drop}
+use lib.Seq.{paste, take-length, take-at, drop-at, drop-drop, set-split}
 use Rattle.numbers.specs.Decimal.{decimal}
 use Rattle.numbers.specs.Written.{Written}
 use Rattle.page_text.specs.Put.{Put}
 use Rattle.page_text.specs.Says.{Says}
 
--- a copy byte after byte: a turn, and where it ends
-pub copy-turn : (d : List ℕ) (at : ℕ) (s : List ℕ) (j : ℕ) (out : List ℕ) → at + length s ≤ length d → j < length s → out ≡ paste d at s j → set out (at + j) (getD s j 0) ≡ paste d at s (j + 1)
-copy-turn d at s j out fits h e =
-    ap (λ o. set o (at + j) (getD s j 0)) e ∙ (paste-suc d at s j 0 (omega arith) h ∙ ap (paste d at s) (sym (add-one j)))
-
+-- where a copy byte after byte ends
 pub copy-done : (d : List ℕ) (at : ℕ) (s : List ℕ) (j : ℕ) (out : List ℕ) → at + length s ≤ length d → j ≤ length s → length s ≤ j → out ≡ paste d at s j → Put s at d (at + j) out
 copy-done d at s j out fits most least e =
     let all : j ≡ length s = omega arith in

@@ -101,7 +101,7 @@ fn put_items(out: &mut [u8], at: usize, path: &[u8]) -> usize
     next
 }
 
-// The best value as the natural number that it is.
+// The best value as the natural number that it is, and 0 for one below 0, which no search of an answered job has.
 fn natural(best: i64) -> u64
     ensures { λ r. ⌜ r ≡ natural best ⌝ }
 {

@@ -15,7 +15,7 @@ use Rattle.refusals.specs.declared.Verdict.the-variants.{Accepted, Refused}
 use Rattle.records.proofs.Lists.{length-without}
 use Rattle.searches.specs.Places.{Place}
 use Rattle.searches.specs.Search.{openIn, without, aboveBest}
-use Rattle.searches.specs.Pick.{accepted, counted}
+use Rattle.searches.specs.Pick.{accepted, onePickMore}
 use Rattle.search.specs.declared.Search.{Search}
 use Rattle.search.specs.declared.Picked.{Picked}
 use Rattle.search.specs.Held.{searchOf}
@@ -67,7 +67,7 @@ module _ (place : ℕ) (s : Search) (t : Tally) (scratch list : List Place) (can
 
   settles-if : (b : Bool) → length (leftOpen place s t scratch list) ≡ still-open → Settles (settleIf b s t (leftOpen place s t scratch list) list) (concludeIf b s t still-open) (replaceIf (isAccepted (concludeIf b s t still-open)) place (s .opened) added list)
   unfolding openIn
-  settles-if true e = record { answered = ap (λ (k : ℕ). pickedFrom accepted (counted k (searchOf (t .search)))) (sym e); written = refl }
+  settles-if true e = record { answered = ap (λ (k : ℕ). pickedFrom accepted (onePickMore k (searchOf (t .search)))) (sym e); written = refl }
   settles-if false e = record { answered = refl; written = refl }
 
   settles-by : (v : Verdict) → t .verdict ≡ v → Settles (settleBy v place s t scratch list) (concludeBy v s t (length added) (length list)) (replaceIf (isAccepted (concludeBy v s t (length added) (length list))) place (s .opened) added list)

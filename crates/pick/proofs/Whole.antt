@@ -3,7 +3,7 @@ use mathlib.Core.Path.{_≡_, refl, sym, ap, ap₂, subst, _∙_}
 use mathlib.Core.Bool.{Bool, true, false, cond}
 use mathlib.Core.List.{List, [], _∷_, _++_, append-nil}
 use mathlib.Core.Option.{Option, none, some}
-use Prim.Native.Nat.{ℕ, zero, suc, _+_, _-_, _^_, _<_, _≤_}
+use Prim.Native.Nat.{ℕ, zero, suc, _+_, _^_, _<_, _≤_}
 use native.Mathlib.Omega.{arith}
 use lib.Dec.{leb}
 use lib.IntN.{ℤ}
@@ -31,7 +31,7 @@ use Rattle.searches.specs.Compile.{Lent, Effect, roomsOf, effect, drainInto, ef
 use Rattle.searches.specs.Search as Def
 use Rattle.searches.specs.Search.{openIn, without, aboveBest}
 use Rattle.searches.specs.Pick as Pick
-use Rattle.searches.specs.Pick.{Asked, Held, pickedFrom, pickRefusal, requestFor, refusing, accepting, ifRoom, appended, lentAfter, afterCompile, ifAbove, unless, pick, accepted, better, counted}
+use Rattle.searches.specs.Pick.{Asked, Held, pickedFrom, pickRefusal, requestFor, refusing, accepting, ifRoom, appended, lentAfter, afterCompile, ifAbove, unless, pick, accepted, better, onePickMore}
 use Rattle.search.specs.declared.Search.{Search}
 use Rattle.search.specs.declared.Picked.{Picked}
 use Rattle.search.specs.Held.{searchOf, searchFrom, optionOf}
@@ -98,7 +98,7 @@ module _ (place : ℕ) (s : Search) (scratch list : List Place) where
   rest-fits h g = omega (arith, length-without place (s .opened) list h g)
 
   -- nothing was compiled: the other open records are left
-  pub idle-settles : place < s .opened → s .opened ≤ length list → (a : Answer) → a ≡ answerFrom (compiled idling) → settle place s (finding s a) scratch list ≡ record { answer = accepted; search = counted (length rest) (searchOf s); list = overPlaces rest list }
+  pub idle-settles : place < s .opened → s .opened ≤ length list → (a : Answer) → a ≡ answerFrom (compiled idling) → settle place s (finding s a) scratch list ≡ record { answer = accepted; search = onePickMore (length rest) (searchOf s); list = overPlaces rest list }
   unfolding better aboveBest
   idle-settles h g a e =
       let n : rest ++ [] ≡ rest = append-nil rest in

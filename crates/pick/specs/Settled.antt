@@ -12,7 +12,7 @@ use Rattle.searches.specs.Places.{Place, overPlaces}
 use Rattle.searches.specs.Search as Def
 use Rattle.searches.specs.Search.{mostPicks, openIn, without, aboveBest}
 use Rattle.searches.specs.Pick as Pick
-use Rattle.searches.specs.Pick.{refusedBy, accepted, counted}
+use Rattle.searches.specs.Pick.{refusedBy, accepted, onePickMore}
 use Rattle.search.specs.declared.Search.{Search}
 use Rattle.search.specs.declared.Picked.{Picked}
 use Rattle.search.specs.Held.{searchOf}
@@ -46,7 +46,7 @@ unchanged n s list = record { answer = refusedBy n; search = searchOf s; list = 
 
 -- the open records are those left
 abbrev pub settleIf : Bool → Search → Tally → List Place → List Place → Ending
-settleIf true s t left list = record { answer = accepted; search = counted (length left) (searchOf (t .search)); list = overPlaces left list }
+settleIf true s t left list = record { answer = accepted; search = onePickMore (length left) (searchOf (t .search)); list = overPlaces left list }
 settleIf false s t left list = unchanged 13 s list
 
 abbrev pub leftOpen : ℕ → Search → Tally → List Place → List Place → List Place

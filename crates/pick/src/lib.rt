@@ -31,7 +31,10 @@ fn compile_if(
     v: Verdict,
     q: Query,
 ) -> Answer
-    ensures { λ a. ⌜ Compiles (compileIf (wanted (refusalOf v) q) (askedBy (now (weights .entry)) (now (profits .entry)) q) (lentOf (now (nodes .entry)) (now (edges .entry)) (places (now (records .entry))))) a (now (nodes .exit)) (now (edges .exit)) (places (now (records .exit))) ⌝ }
+    ensures { λ a.
+        ⌜ Compiles
+        (compileIf (wanted (refusalOf v) q) (askedBy (now (weights .entry)) (now (profits .entry)) q) (lentOf (now (nodes .entry)) (now (edges .entry)) (places (now (records .entry)))))
+        a (now (nodes .exit)) (now (edges .exit)) (places (now (records .exit))) ⌝ }
 {
     if pick_steps::wants(v, q) {
         compile_records::compile_into(weights, profits, nodes, edges, records, q)
@@ -51,7 +54,9 @@ fn replace(
     best: i64,
 )
     requires { ⌜ (wanted ≡ true → Replaceable place opened drained best (places (now scratch)) (places (now list))) ⌝ }
-    ensures { λ _. ⌜ places (now (list .exit)) ≡ replaceIf wanted place opened (aboveBest best (take drained (places (now (scratch .entry))))) (places (now (list .entry))) ⌝ }
+    ensures { λ _.
+        ⌜ places (now (list .exit)) ≡ replaceIf wanted place opened (aboveBest best (take drained (places (now (scratch .entry)))))
+        (places (now (list .entry))) ⌝ }
 {
     if wanted {
         records::remove(list, place, opened);
@@ -87,7 +92,10 @@ pub fn pick(
     place: usize,
     s: Search,
 ) -> Picked
-    ensures { λ p. ⌜ Picks (pick (askedIn (now (weights .entry)) (now (profits .entry)) ask place) (searchOf s) (heldIn (places (now (list .entry))) (now (nodes .entry)) (now (edges .entry)) (places (now (scratch .entry))))) p (now (nodes .exit)) (now (edges .exit)) (places (now (list .exit))) (places (now (scratch .exit))) ⌝ }
+    ensures { λ p.
+        ⌜ Picks
+        (pick (askedIn (now (weights .entry)) (now (profits .entry)) ask place) (searchOf s) (heldIn (places (now (list .entry))) (now (nodes .entry)) (now (edges .entry)) (places (now (scratch .entry)))))
+        p (now (nodes .exit)) (now (edges .exit)) (places (now (list .exit))) (places (now (scratch .exit))) ⌝ }
 {
     let n = list.len();
     let r = records::get(list, place);
@@ -110,7 +118,10 @@ pub fn pick_in(
     place: usize,
     s: &mut Search,
 ) -> Verdict
-    ensures { λ v. ⌜ PicksIn (pick (askedIn (now (weights .entry)) (now (profits .entry)) ask place) (searchOf (now (s .entry))) (heldIn (places (now (list .entry))) (now (nodes .entry)) (now (edges .entry)) (places (now (scratch .entry))))) v (now (s .exit)) (now (nodes .exit)) (now (edges .exit)) (places (now (list .exit))) (places (now (scratch .exit))) ⌝ }
+    ensures { λ v.
+        ⌜ PicksIn
+        (pick (askedIn (now (weights .entry)) (now (profits .entry)) ask place) (searchOf (now (s .entry))) (heldIn (places (now (list .entry))) (now (nodes .entry)) (now (edges .entry)) (places (now (scratch .entry)))))
+        v (now (s .exit)) (now (nodes .exit)) (now (edges .exit)) (places (now (list .exit))) (places (now (scratch .exit))) ⌝ }
 {
     let old = *s;
     let p = pick(

@@ -8,7 +8,8 @@ use Rattle.calls.specs.Refusals.{firstOf, problemChecks, recordChecks}
 use Rattle.searches.specs.Search.{Search}
 use Rattle.searches.specs.Pick.{pickCheck}
 use Rattle.search.specs.Refused.{pickFirst}
-use Rattle.search.proofs.Firsts.{first-before, first-behind, none-before}
+use Rattle.refusals.proofs.Accepted.{first-before, first-behind}
+use Rattle.search.proofs.Firsts.{none-before}
 use Rattle.pick_steps.specs.Steps.{numbersOf}
 
 module _ (p : Problem) (s : Search) (place places : ℕ) (g : Given) where

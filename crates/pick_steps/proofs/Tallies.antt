@@ -9,7 +9,7 @@ use Rattle.refusals.specs.declared.Verdict.{Verdict}
 use Rattle.refusals.specs.declared.Verdict.the-variants.{Accepted, Refused}
 use Rattle.refusals.specs.Verdict.{refusalOf}
 use Rattle.searches.specs.Search as Def
-use Rattle.searches.specs.Pick.{better, refusedBy, accepted, counted}
+use Rattle.searches.specs.Pick.{better, refusedBy, accepted, onePickMore}
 use Rattle.search.specs.declared.Search.{Search}
 use Rattle.search.specs.declared.Picked.{Picked}
 use Rattle.search.specs.Held.{searchOf, searchFrom, optionOf}
@@ -48,5 +48,5 @@ module _ (s : Search) (t : Tally) (k places : ℕ) where
   pub concluded-full : (p : Picked) → t .verdict ≡ Accepted → places < s .opened - 1 + k → p ≡ pickedFrom (refusedBy 13) (searchOf s) → p ≡ conclusion s t k places
   concluded-full p e l h = concluded-by false p e (lt-leb (s .opened - 1 + k) places l) h
 
-  pub concluded-fits : (p : Picked) → t .verdict ≡ Accepted → s .opened - 1 + k ≤ places → p ≡ pickedFrom accepted (counted (s .opened - 1 + k) (searchOf (t .search))) → p ≡ conclusion s t k places
+  pub concluded-fits : (p : Picked) → t .verdict ≡ Accepted → s .opened - 1 + k ≤ places → p ≡ pickedFrom accepted (onePickMore (s .opened - 1 + k) (searchOf (t .search))) → p ≡ conclusion s t k places
   concluded-fits p e l h = concluded-by true p e (le-leb (s .opened - 1 + k) places l) h

@@ -6,7 +6,7 @@ use lib.Dec.{leb}
 use Rattle.refusals.specs.declared.Verdict.{Verdict}
 use Rattle.refusals.specs.declared.Verdict.the-variants.{Accepted, Refused}
 use Rattle.searches.specs.Search.{mostPicks}
-use Rattle.searches.specs.Pick.{refusedBy, accepted, counted}
+use Rattle.searches.specs.Pick.{refusedBy, accepted, onePickMore}
 use Rattle.search.specs.declared.Search.{Search}
 use Rattle.search.specs.declared.Picked.{Picked}
 use Rattle.search.specs.Held.{searchOf}
@@ -21,7 +21,7 @@ pub record Concluding (s : Search) (t : Tally) (k places : ℕ) : Type 0 where
 
 -- 13 'the open list after the pick would outgrow its room'
 abbrev pub concludeIf : Bool → Search → Tally → ℕ → Picked
-concludeIf true s t opened = pickedFrom accepted (counted opened (searchOf (t .search)))
+concludeIf true s t opened = pickedFrom accepted (onePickMore opened (searchOf (t .search)))
 concludeIf false s t opened = pickedFrom (refusedBy 13) (searchOf s)
 
 abbrev pub concludeBy : Verdict → Search → Tally → ℕ → ℕ → Picked

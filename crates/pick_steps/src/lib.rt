@@ -1,4 +1,4 @@
-// The steps of a pick by value, where the borrow checker covers all: what a pick decides before and after its compile.
+// What a pick decides before and after its compile, by value: what is proved here is not walked by hand in `pick`.
 ghost use mathlib.Core.Path.{_≡_};
 ghost use Rattle.refusals.specs.Verdict.{refusalOf};
 ghost use Rattle.calls.specs.Compile.{compiled};
@@ -36,7 +36,9 @@ pub fn verdict_of(
     r: Record,
     places: usize,
 ) -> Verdict
-    ensures { λ v. ⌜ refusalOf v ≡ numbersOf (problemOf (now (weights .entry)) (now (profits .entry)) (ask .page) (ask .width)) (searchOf s) place places (givenAt (placeFrom r)) ⌝ }
+    ensures { λ v.
+        ⌜ refusalOf v ≡ numbersOf (problemOf (now (weights .entry)) (now (profits .entry)) (ask .page) (ask .width)) (searchOf s) place places
+        (givenAt (placeFrom r)) ⌝ }
 {
     let first = search::pick_verdict(weights, profits, ask.page, ask.width, s, place, places);
     match first {
@@ -92,7 +94,7 @@ pub fn idle() -> Answer
 }
 
 // A refused pick's tally: the search stays, and no place is looked at.
-pub fn refused_tally(number: u64, s: Search) -> Tally
+fn refused_tally(number: u64, s: Search) -> Tally
     ensures { λ t. ⌜ t ≡ refusing number s ⌝ }
 {
     Tally {
@@ -103,7 +105,7 @@ pub fn refused_tally(number: u64, s: Search) -> Tally
 }
 
 // An accepted compile's tally: a larger exact value replaces best and path; an exact diagram's records are not looked at.
-pub fn found(s: Search, a: Answer) -> Tally
+fn found(s: Search, a: Answer) -> Tally
     ensures { λ t. ⌜ t ≡ finding s a ⌝ }
 {
     let best_exact = a.best_exact;
@@ -131,7 +133,7 @@ pub fn tallied(v: Verdict, s: Search, a: Answer) -> Tally
     }
 }
 
-// How many places of the scratch list are looked at.
+// How many places of the scratch list are looked at: a field by a call, for a walk by hand, which never looks into a struct.
 pub fn looked_at(t: Tally) -> usize
     ensures { λ n. ⌜ n ≡ t .drained ⌝ }
 {

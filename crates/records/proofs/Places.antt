@@ -1,6 +1,6 @@
--- A list of record structs and its places: the list's operations on the one are those on the other.
-use mathlib.Core.Path.{_≡_, refl, ap}
-use mathlib.Core.List.{List, [], _∷_, _++_}
+-- A list of record structs and its places: the list's operations on the one are those on the other, and the places lose nothing of it.
+use mathlib.Core.Path.{_≡_, refl, sym, ap, _∙_}
+use mathlib.Core.List.{List, [], _∷_, _++_, map}
 use Prim.Native.Nat.{ℕ, zero, suc}
 use lib.ListN.{length, getD, set, take, drop, length-map}
 use Rattle.searches.specs.Places.{Place}
@@ -39,3 +39,15 @@ unfolding places
 place-at [] i = refl
 place-at (r ∷ rs) zero = refl
 place-at (r ∷ rs) (suc i) = place-at rs i
+
+-- A place has every field of its struct, so equal places are those of equal lists.
+abbrev structAt : Place → Record
+structAt p = record { capacity = p .capacity; value = p .value; bound = p .bound; depth = p .depth; path = p .bytes }
+
+structs-back : (rs : List Record) → map structAt (places rs) ≡ rs
+unfolding places placeFrom
+structs-back [] = refl
+structs-back (r ∷ rs) = ap (λ (l : List Record). r ∷ l) (structs-back rs)
+
+pub places-same : (rs ts : List Record) → places rs ≡ places ts → rs ≡ ts
+places-same rs ts e = sym (structs-back rs) ∙ ap (map structAt) e ∙ structs-back ts

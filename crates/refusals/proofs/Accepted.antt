@@ -19,7 +19,7 @@ unfolding firstOf
 none-here n true cs e = let z : _≡_ {A = ℕ} 0 1 = cc in absurd (omega arith)
 none-here n false cs e = (refl, e)
 
-or-false : (a b : Bool) → (a || b) ≡ false → (a ≡ false) × (b ≡ false)
+pub or-false : (a b : Bool) → (a || b) ≡ false → (a ≡ false) × (b ≡ false)
 or-false true b e = let z : _≡_ {A = ℕ} 0 1 = cc in absurd (omega arith)
 or-false false b e = (refl, e)
 
@@ -45,7 +45,7 @@ passed p e =
     }
 
 -- the first of two lists that applies is that of the one before, or of the other where that has none
-first-before : (cs ds : List Check) (n : ℕ) → firstOf cs ≡ some n → firstOf (cs ++ ds) ≡ some n
+pub first-before : (cs ds : List Check) (n : ℕ) → firstOf cs ≡ some n → firstOf (cs ++ ds) ≡ some n
 unfolding firstOf
 first-before [] ds n = λ e. let z : _≡_ {A = ℕ} 0 1 = cc in absurd (omega arith)
 first-before (c ∷ cs) ds n =
@@ -53,7 +53,7 @@ first-before (c ∷ cs) ds n =
     (λ t e. e)
     (λ t e. first-before cs ds n e)
 
-first-behind : (cs ds : List Check) → firstOf cs ≡ none → firstOf (cs ++ ds) ≡ firstOf ds
+pub first-behind : (cs ds : List Check) → firstOf cs ≡ none → firstOf (cs ++ ds) ≡ firstOf ds
 unfolding firstOf
 first-behind [] ds = λ e. refl
 first-behind (c ∷ cs) ds =

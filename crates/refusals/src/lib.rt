@@ -147,7 +147,8 @@ fn is_natural(value: i64, n: u64) -> bool
 
 // Refusals 1 to 6: of weights and profits, page capacity and width.
 pub fn problem_refusal(weights: &[u64], profits: &[u64], page: u64, width: u64) -> Verdict
-    ensures { λ r. ⌜ refusalOf r ≡ firstOf (problemChecks (record { weights = now (weights .entry); profits = now (profits .entry); page = page; width = width })) ⌝ }
+    ensures { λ r.
+        ⌜ refusalOf r ≡ firstOf (problemChecks (record { weights = now (weights .entry); profits = now (profits .entry); page = page; width = width })) ⌝ }
 {
     if weights.len() != profits.len() {
         return Verdict::Refused(1);

@@ -180,6 +180,7 @@ fn serve(
     tell(i);
 }
 
+// The tables are the largest that a request may ask for: `requests::tables_fit`.
 fn main() {
     let mut buf = io::large_buffer();
     let mut out = io::large_buffer();

@@ -1,29 +1,20 @@
 -- What the words that the code reads and writes mean for the rows that a table holds.
-use mathlib.Core.Path.{_≡_, refl, sym, ap, subst, _∙_}
-use mathlib.Core.Bool.{Bool}
+use mathlib.Core.Path.{_≡_, refl, sym, ap, _∙_}
 use mathlib.Core.List.{List, [], _∷_, _++_}
-use Prim.Native.Nat.{ℕ, zero, suc, _+_, _*_, _/_, _%_, _<_, _≤_}
+use Prim.Native.Nat.{ℕ, suc, _+_, _*_, _/_, _%_, _<_, _≤_}
 use native.Mathlib.Omega.{arith}
 use lib.Dec.{eqb, lit<}
-use lib.ListN.{length, getD, set, take, drop}
+use lib.ListN.{length, getD, take, drop}
 use lib.Seq.{sets, sets-eq, paste, length-sets, take-all}
 use Rattle.diagram.specs.Node.{Node, Edge, noNode, noEdge, nodeAt, edgeAt}
 use Rattle.diagram.specs.Record.{Record, pathRoom, padded}
 use Rattle.layout.specs.Table.{over}
-use Rattle.layout.specs.Rows.{nodeWords, edgeWords, flagsWord, hasFlag, decodeNode, encodeNode, decodeEdge, encodeEdge, nodeTable, edgeTable}
+use Rattle.layout.specs.Rows.{nodeWords, edgeWords, flagsWord, hasFlag, decodeNode, encodeNode, encodeEdge, nodeTable, edgeTable}
 use Rattle.layout.specs.Records.{encodeRecord, recordTable}
-use Rattle.layout.proofs.Rows.{node-back, edge-back}
+use Rattle.layout.proofs.Rows.{node-width, edge-width, node-back}
 use Rattle.layout.proofs.Records.{padded-length, record-behind}
 use Rattle.layout.proofs.Table.{word-at, stored-replaced, stored-appended}
 use Rattle.rows.specs.Access.{NodeRead, FieldRead, EdgeRead, NodeWritten, EdgeWritten, RecordWritten}
-
-pub node-width : (n : Node) → length (encodeNode n) ≡ nodeWords
-unfolding encodeNode
-node-width n = refl
-
-pub edge-width : (e : Edge) → length (encodeEdge e) ≡ edgeWords
-unfolding encodeEdge
-edge-width e = refl
 
 -- word k of row r of a node table
 node-word : (ns : List Node) (old : List ℕ) (t : List ℕ) (r k : ℕ) → t ≡ over (nodeTable ns) old → r < length ns → k < nodeWords → getD t (r * nodeWords + k) 0 ≡ getD (encodeNode (nodeAt ns r)) k 0

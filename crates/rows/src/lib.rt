@@ -1,14 +1,14 @@
-// A node or an edge by value, read from and written to the words of its row, and a record written: the only code that knows where their words stand.
+// A node or an edge by value, read from and written to the words of its row, and a record written. No other code knows where a node's or an edge's words stand; a record's are also read in `records`.
 ghost use mathlib.Core.Path.{_≡_};
-ghost use mathlib.Core.List.{List, [], _∷_, _++_};
-ghost use Prim.Native.Nat.{ℕ, suc, _+_, _*_, _<_, _≤_};
-ghost use lib.ListN.{length, set};
+ghost use Prim.Native.Nat.{_+_, _*_, _≤_};
+ghost use lib.ListN.{length};
 ghost use lib.Seq.{paste};
 ghost use Rattle.layout.specs.Records.{recordWords};
 ghost use Rattle.rows.specs.Values.{nodeOf, edgeOf};
 ghost use Rattle.rows.specs.Access.{NodeRead, FieldRead, NodeWritten, EdgeRead, EdgeWritten, RecordWritten};
 ghost use Rattle.layout.specs.Rows.{edgeWords, nodeWords, digit, flagsWord};
 
+// How many words a row or a record has.
 pub const NODE_WORDS: usize = 8;
 
 pub const EDGE_WORDS: usize = 5;
@@ -27,7 +27,7 @@ pub struct EdgeId(pub usize);
 // An edge or none, as it stands in a row: 0 for none, e + 1 for edge e.
 pub struct Link(pub u64);
 
-// value, bottom and fast are i64 numbers as words: number + 2^63
+// A row of the node table. Value, bottom and fast are i64 numbers as words: number + 2^63.
 pub struct Node {
     pub capacity: u64,
     pub depth: u64,
@@ -43,6 +43,7 @@ pub struct Node {
     pub deleted: bool,
 }
 
+// A row of the edge table. The cost is a profit or 0, and so a plain number.
 pub struct Edge {
     pub from: NodeId,
     pub to: NodeId,

@@ -9,34 +9,15 @@ use native.Mathlib.Omega.{arith}
 use lib.Dec.{ltb, eqb}
 use lib.ListN.{length}
 use borrow.Author.Tests.{eq-eqb, ne-eqb, lt-ltb, le-ltb, ltb-true, ltb-false, eqb-false, not-false}
-use Rattle.knapsack.proofs.Cases.{by-test}
 use Rattle.calls.specs.Asked.{Problem}
 use Rattle.calls.specs.Refusals.{Check, firstOf, problemChecks, recordChecks}
 use Rattle.refusals.specs.Passed.{Passed}
-use Rattle.refusals.proofs.Accepted.{passed}
+use Rattle.refusals.proofs.Accepted.{or-false, passed, first-before, first-behind}
 use Rattle.searches.specs.Places.{Place}
 use Rattle.searches.specs.Search.{Search, mostPicks}
 use Rattle.searches.specs.Start.{startRefusal}
 use Rattle.searches.specs.Pick.{Asked, pickCheck, pickRefusal, pickedFrom}
 use Rattle.search.specs.Refused.{pickFirst}
-
--- ---- the first of two lists that applies: that of the one before, or of the other where that has none
-
-pub first-before : (cs ds : List Check) (n : ℕ) → firstOf cs ≡ some n → firstOf (cs ++ ds) ≡ some n
-unfolding firstOf
-first-before [] ds n = λ e. let z : _≡_ {A = ℕ} 0 1 = cc in absurd (omega arith)
-first-before (c ∷ cs) ds n =
-    by-test (λ t. (elim t [ true ↦ some (c .number) | false ↦ firstOf cs ]) ≡ some n → (elim t [ true ↦ some (c .number) | false ↦ firstOf (cs ++ ds) ]) ≡ some n) (c .applies)
-    (λ t e. e)
-    (λ t e. first-before cs ds n e)
-
-pub first-behind : (cs ds : List Check) → firstOf cs ≡ none → firstOf (cs ++ ds) ≡ firstOf ds
-unfolding firstOf
-first-behind [] ds = λ e. refl
-first-behind (c ∷ cs) ds =
-    by-test (λ t. (elim t [ true ↦ some (c .number) | false ↦ firstOf cs ]) ≡ none → (elim t [ true ↦ some (c .number) | false ↦ firstOf (cs ++ ds) ]) ≡ firstOf ds) (c .applies)
-    (λ t e. let z : _≡_ {A = ℕ} 0 1 = cc in absurd (omega arith))
-    (λ t e. first-behind cs ds e)
 
 applies-here : (n : ℕ) (b : Bool) (cs : List Check) → b ≡ true → some n ≡ firstOf (record { number = n; applies = b } ∷ cs)
 unfolding firstOf
@@ -119,10 +100,6 @@ none-here : (n : ℕ) (b : Bool) → firstOf (record { number = n; applies = b }
 unfolding firstOf
 none-here n true e = let z : _≡_ {A = ℕ} 0 1 = cc in absurd (omega arith)
 none-here n false e = refl
-
-or-false : (a b : Bool) → (a || b) ≡ false → (a ≡ false) × (b ≡ false)
-or-false true b e = let z : _≡_ {A = ℕ} 0 1 = cc in absurd (omega arith)
-or-false false b e = (refl, e)
 
 pub record Allowed (p : Problem) (s : Search) (place places : ℕ) : Type 0 where
   pub passed : Passed p

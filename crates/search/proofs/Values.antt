@@ -1,4 +1,4 @@
--- The searches that `better` and `counted` make are those of the definitions.
+-- The searches that `better` and `one_pick_more` make are those of the definitions.
 use mathlib.Core.Path.{_≡_, refl, sym, ap}
 use mathlib.Core.Bool.{Bool, true, false}
 use mathlib.Core.List.{List}
@@ -9,14 +9,14 @@ use lib.IntN.{ℤ}
 use lib.Signed.{ltZ}
 use Rattle.finalize.specs.declared.Value.{Value}
 use Rattle.finalize.specs.declared.Value.the-variants.{Is, Missing}
-use Rattle.searches.specs.Pick.{better, counted}
+use Rattle.searches.specs.Pick.{better, onePickMore}
 use Rattle.searches.specs.Search as Def
 use Rattle.search.specs.declared.Search.{Search}
 use Rattle.search.specs.Held.{searchOf, optionOf}
 
-pub counted-made : (s : Search) (opened : ℕ) (b : ℤ) → b ≡ s .best → _≡_ {A = Def.Search} (record { best = b; held = s .held; path = s .path; opened = opened; picks = s .picks + 1 }) (counted opened (searchOf s))
-unfolding counted
-counted-made s opened b e = rw (e, add-one) refl
+pub one-pick-more-made : (s : Search) (opened : ℕ) (b : ℤ) → b ≡ s .best → _≡_ {A = Def.Search} (record { best = b; held = s .held; path = s .path; opened = opened; picks = s .picks + 1 }) (onePickMore opened (searchOf s))
+unfolding onePickMore
+one-pick-more-made s opened b e = rw (e, add-one) refl
 
 -- `better` by its test
 better-by : (t : Bool) (v : ℤ) (path : List ℕ) (s : Def.Search) → ltZ (s .best) v ≡ t → better (some v) path s ≡ elim t [ true ↦ record { best = v; held = true; path = path; opened = s .opened; picks = s .picks } | false ↦ s ]

@@ -10,7 +10,7 @@ ghost use Rattle.records.specs.Structs.{placeFrom, places};
 ghost use Rattle.searches.specs.Places.{givenAt, rootPlace};
 ghost use Rattle.searches.specs.Search.{mostPicks};
 ghost use Rattle.searches.specs.Start.{startRefusal, begun, start};
-ghost use Rattle.searches.specs.Pick.{pickCheck, better, counted, refusedBy, accepted};
+ghost use Rattle.searches.specs.Pick.{pickCheck, better, onePickMore, refusedBy, accepted};
 ghost use Rattle.search.specs.Held.{searchOf, noSearch, optionOf};
 ghost use Rattle.search.specs.Answered.{startAnswer, startedFrom, pickedFrom};
 ghost use Rattle.search.specs.Asked.{problemOf};
@@ -56,13 +56,7 @@ pub struct Picked {
 }
 
 // Refusals 1 to 6, then 13 where the list has no place for the root.
-pub fn start_verdict(
-    weights: &[u64],
-    profits: &[u64],
-    page: u64,
-    width: u64,
-    places: usize,
-) -> Verdict
+fn start_verdict(weights: &[u64], profits: &[u64], page: u64, width: u64, places: usize) -> Verdict
     ensures { λ r. ⌜ refusalOf r ≡ startRefusal (problemOf (now (weights .entry)) (now (profits .entry)) page width) places ⌝ }
 {
     let problem = refusals::problem_refusal(weights, profits, page, width);
@@ -79,7 +73,7 @@ pub fn start_verdict(
 }
 
 // The search before its first pick.
-pub fn begun(bound: i64) -> Search
+fn begun(bound: i64) -> Search
     ensures { λ s. ⌜ searchOf s ≡ begun bound ⌝ }
 {
     Search {
@@ -105,7 +99,7 @@ pub fn no_search() -> Search
 }
 
 // A start's answer by its verdict.
-pub fn start_answer(verdict: Verdict, bound: i64) -> Started
+fn start_answer(verdict: Verdict, bound: i64) -> Started
     ensures { λ a. ⌜ a ≡ startedFrom (startAnswer (refusalOf verdict) bound) ⌝ }
 {
     match verdict {
@@ -180,7 +174,8 @@ pub fn pick_verdict(
 // Refusals 7 to 9 of the record in a place. A depth above the path's room is above every item count.
 pub fn record_verdict(weights: &[u64], profits: &[u64], page: u64, r: Record) -> Verdict
     requires { ⌜ InLimits (now weights) (now profits) ⌝ }
-    ensures { λ v. ⌜ ((width : ℕ) → refusalOf v ≡ firstOf (recordChecks (problemOf (now (weights .entry)) (now (profits .entry)) page width) (givenAt (placeFrom r)))) ⌝ }
+    ensures { λ v.
+        ⌜ ((width : ℕ) → refusalOf v ≡ firstOf (recordChecks (problemOf (now (weights .entry)) (now (profits .entry)) page width) (givenAt (placeFrom r)))) ⌝ }
 {
     if r.depth > 64 {
         return Verdict::Refused(7);
@@ -220,9 +215,9 @@ pub fn better(s: Search, best_exact: Value, path: [u8; 64]) -> Search
 }
 
 // One accepted pick more, with that many records open.
-pub fn counted(s: Search, opened: usize) -> Search
+fn one_pick_more(s: Search, opened: usize) -> Search
     requires { ⌜ s .picks < mostPicks ⌝ }
-    ensures { λ r. ⌜ searchOf r ≡ counted opened (searchOf s) ⌝ }
+    ensures { λ r. ⌜ searchOf r ≡ onePickMore opened (searchOf s) ⌝ }
 {
     let path = s.path;
     Search {
@@ -247,16 +242,16 @@ pub fn refused_pick(number: u64, s: Search) -> Picked
 // An accepted pick's answer, with that many records open after it.
 pub fn accepted_pick(s: Search, opened: usize) -> Picked
     requires { ⌜ s .picks < mostPicks ⌝ }
-    ensures { λ a. ⌜ a ≡ pickedFrom accepted (counted opened (searchOf s)) ⌝ }
+    ensures { λ a. ⌜ a ≡ pickedFrom accepted (onePickMore opened (searchOf s)) ⌝ }
 {
-    let search = counted(s, opened);
+    let search = one_pick_more(s, opened);
     Picked {
         verdict: Verdict::Accepted,
         search: search,
     }
 }
 
-// The search after a pick.
+// The search after a pick. A walk by hand never looks into a struct: it has a call for each field that it needs.
 pub fn search_of(p: Picked) -> Search
     ensures { λ s. ⌜ s ≡ p .search ⌝ }
 {
@@ -278,8 +273,9 @@ pub fn opened_of(s: Search) -> usize
 }
 
 // A start's answer. It asks of the list how many places it has, and nothing of what they hold.
-pub fn started_by(weights: &[u64], profits: &[u64], ask: Ask, bound: i64, places: usize) -> Started
-    ensures { λ a. ⌜ a ≡ startedFrom (startAnswer (startRefusal (problemOf (now (weights .entry)) (now (profits .entry)) (ask .page) (ask .width)) places) bound) ⌝ }
+fn started_by(weights: &[u64], profits: &[u64], ask: Ask, bound: i64, places: usize) -> Started
+    ensures { λ a.
+        ⌜ a ≡ startedFrom (startAnswer (startRefusal (problemOf (now (weights .entry)) (now (profits .entry)) (ask .page) (ask .width)) places) bound) ⌝ }
 {
     let verdict = start_verdict(weights, profits, ask.page, ask.width, places);
     start_answer(verdict, bound)
@@ -308,7 +304,9 @@ fn put_first(list: &mut [Record], wanted: bool, r: Record)
 
 // A start checks 1 to 6, then 13, and writes the root record in the list's first place. Refused, it gives no search and leaves the list unchanged.
 pub fn start(weights: &[u64], profits: &[u64], ask: Ask, bound: i64, list: &mut [Record]) -> Started
-    ensures { λ a. ⌜ Begins (start (problemOf (now (weights .entry)) (now (profits .entry)) (ask .page) (ask .width)) bound (places (now (list .entry)))) a (places (now (list .exit))) ⌝ }
+    ensures { λ a.
+        ⌜ Begins (start (problemOf (now (weights .entry)) (now (profits .entry)) (ask .page) (ask .width)) bound (places (now (list .entry)))) a
+        (places (now (list .exit))) ⌝ }
 {
     let n = list.len();
     let answer = started_by(weights, profits, ask, bound, n);

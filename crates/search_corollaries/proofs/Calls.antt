@@ -1,8 +1,7 @@
 -- The calls of one search are a trace of the definition, so demand 3 holds of them.
-use mathlib.Core.Path.{_≡_, refl, sym, ap, ap₂, subst, _∙_}
+use mathlib.Core.Path.{_≡_, sym, ap, ap₂, subst, _∙_}
 use mathlib.Core.List.{List}
-use mathlib.Core.Option.{Option, none, some}
-use Prim.Native.Nat.{ℕ, _≤_, _<_}
+use Prim.Native.Nat.{ℕ, _≤_}
 use native.Mathlib.Omega.{arith}
 use lib.IntN.{ℤ}
 use lib.ListN.{length, take}
@@ -28,7 +27,6 @@ use Rattle.search.specs.Answered.{startedFrom, pickedFrom}
 use Rattle.demand3.proofs.Few.{picks-are-few}
 use Rattle.demand3.proofs.Ended.{empty-means-optimal}
 use Rattle.demand3.proofs.Always.{always-stands}
-use Rattle.search.specs.declared.Ask.{Ask}
 use Rattle.pick.specs.Picks.{askedIn, heldIn}
 use Rattle.search_corollaries.specs.Calls as Calling
 use Rattle.search_corollaries.specs.Calls.{Calls, CallsAreFew, CallsEndOptimal, CallsStand, PickInPlace}

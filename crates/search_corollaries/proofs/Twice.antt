@@ -3,7 +3,7 @@ use mathlib.Core.Path.{_≡_, refl, sym, ap, ap₂, subst, _∙_}
 use mathlib.Core.Bool.{Bool, true, false}
 use mathlib.Core.List.{List, [], _∷_, _++_}
 use mathlib.Core.Option.{Option, none, some}
-use Prim.Native.Nat.{ℕ, zero, suc, _+_, _<_, _≤_}
+use Prim.Native.Nat.{ℕ, zero, suc, _+_, _<_}
 use native.Mathlib.Nat.{le-of-suc-le-suc, not-suc-le-zero}
 use native.Mathlib.Omega.{arith}
 use lib.Dec.{leb}
@@ -14,19 +14,18 @@ use Rattle.layout.specs.Table.{over}
 use Rattle.calls.specs.Asked.{Given}
 use Rattle.calls.specs.Refusals.{firstOf, recordChecks}
 use Rattle.calls.specs.Compile as Call
-use Rattle.calls.specs.Compile.{Rooms, Compiled, refused, compiled}
+use Rattle.calls.specs.Compile.{Rooms, refused, compiled}
 use Rattle.searches.specs.Places.{Place, givenAt, noPlace, overPlaces}
 use Rattle.searches.specs.Compile as Into
 use Rattle.searches.specs.Compile.{Lent, Effect, roomsOf, compileEffect, after, compile}
 use Rattle.searches.specs.Search.{Search, openIn, without}
 use Rattle.searches.specs.Pick as Pick
-use Rattle.searches.specs.Pick.{Asked, Held, After, pickRefusal, pickedFrom, requestFor, refusing, accepting, better, counted, ifRoom, appended, lentAfter, afterCompile, ifAbove, unless, pick}
+use Rattle.searches.specs.Pick.{Asked, Held, After, pickRefusal, pickedFrom, requestFor, refusing, accepting, better, onePickMore, ifRoom, appended, lentAfter, afterCompile, ifAbove, unless, pick}
 use Rattle.search.specs.Refused.{pickFirst}
 use Rattle.search.proofs.Firsts.{refused-first, then-record, allowed}
 use Rattle.search.specs.declared.Picked.{Picked}
 use Rattle.search.specs.Answered as Code
 use Rattle.compile.specs.declared.Answer.{Answer}
-use Rattle.compile.specs.Answered.{answerFrom}
 use Rattle.compile_records.specs.Queried.{lentOf, Compiles}
 use Rattle.pick.specs.Picks.{Picks}
 use Rattle.search_corollaries.specs.Twice.{SameInput, PickedAlike, OnePick, OneCompile}
@@ -71,8 +70,20 @@ module _ (q : Asked) (s : Search) (h k : Held) (same : SameInput s h k) where
 
   -- refused: search and lists as they were, tables with what was written
   refused-alike : (n : ℕ) (w : Effect) → PickedAlike (refusing n s (h .list) (lentAfter w (h .lent))) (refusing n s (k .list) (lentAfter w (k .lent))) h k
-  unfolding refusing
-  refused-alike n w = record { answers = refl; searches = refl; opened = same .opened; beyond = (refl, refl); written = w; first-lent = refl; second-lent = refl }
+  unfolding refusing overPlaces
+  refused-alike n w =
+      record {
+        answers = refl;
+        searches = refl;
+        opened = same .opened;
+        beyond = (refl, refl);
+        placed = [];
+        first-list = refl;
+        second-list = refl;
+        written = w;
+        first-lent = refl;
+        second-lent = refl;
+      }
 
   left-open : (left list : List Place) → take (length left) (overPlaces left list) ≡ left
   unfolding overPlaces
@@ -85,13 +96,16 @@ module _ (q : Asked) (s : Search) (h k : Held) (same : SameInput s h k) where
       ap (λ (m : ℕ). drop m (left ++ drop (length left) list)) z ∙ drop-append-add left (drop (length left) list) 0
 
   accepted-alike : (s₁ : Search) (left : List Place) (w : Effect) → PickedAlike (accepting s₁ left (h .list) (lentAfter w (h .lent))) (accepting s₁ left (k .list) (lentAfter w (k .lent))) h k
-  unfolding accepting openIn counted
+  unfolding accepting openIn onePickMore
   accepted-alike s₁ left w =
       record {
         answers = refl;
         searches = refl;
         opened = left-open left (h .list) ∙ sym (left-open left (k .list));
         beyond = (behind-left left (h .list), behind-left left (k .list));
+        placed = left;
+        first-list = refl;
+        second-list = refl;
         written = w;
         first-lent = refl;
         second-lent = refl;
@@ -164,6 +178,9 @@ one-pick q s h k same p p′ ns es ns′ es′ l r l′ r′ x y =
       opened = ap₂ (take {A = Place}) n (x .list-is) ∙ z .opened ∙ sym (ap₂ (take {A = Place}) n′ (y .list-is));
       beyond =
           (ap₂ (drop {A = Place}) n (x .list-is) ∙ z .beyond .0 ∙ ap (λ (m : ℕ). drop m (h .list)) (sym n), ap₂ (drop {A = Place}) n′ (y .list-is) ∙ z .beyond .1 ∙ ap (λ (m : ℕ). drop m (k .list)) (sym n′));
+      placed = z .placed;
+      first-list = x .list-is ∙ z .first-list;
+      second-list = y .list-is ∙ z .second-list;
       written = z .written;
       first-lent = lent-of d p ns es l r x ∙ z .first-lent;
       second-lent = lent-of e p′ ns′ es′ l′ r′ y ∙ z .second-lent;

@@ -4,7 +4,7 @@ use mathlib.Core.List.{List}
 use Prim.Native.Nat.{ℕ}
 use lib.ListN.{length, take, drop}
 use Rattle.calls.specs.Compile.{Request}
-use Rattle.searches.specs.Places.{Place}
+use Rattle.searches.specs.Places.{Place, overPlaces}
 use Rattle.searches.specs.Compile.{Lent, Effect, roomsOf, compile}
 use Rattle.searches.specs.Search.{Search, openIn}
 use Rattle.searches.specs.Pick.{Asked, Held, After, lentAfter, pick}
@@ -18,12 +18,15 @@ pub record SameInput (s : Search) (h k : Held) : Type 0 where
   pub long : length (h .list) ≡ length (k .list)
   pub rooms : roomsOf (h .lent) ≡ roomsOf (k .lent)
 
--- Equal answers and searches, the same open records; the list's places behind them as they were. What is written from the start of tables and scratch list on is the same, over what each held.
+-- Equal answers and searches, the same open records; the list's places behind them as they were. What is written from the start of list, tables and scratch list on is the same, over what each held.
 pub record PickedAlike (d e : After) (h k : Held) : Type 0 where
   pub answers : d .answer ≡ e .answer
   pub searches : d .search ≡ e .search
   pub opened : openIn (d .search) (d .held .list) ≡ openIn (e .search) (e .held .list)
   pub beyond : (drop (d .search .opened) (d .held .list) ≡ drop (d .search .opened) (h .list)) × (drop (e .search .opened) (e .held .list) ≡ drop (e .search .opened) (k .list))
+  pub placed : List Place
+  pub first-list : d .held .list ≡ overPlaces placed (h .list)
+  pub second-list : e .held .list ≡ overPlaces placed (k .list)
   pub written : Effect
   pub first-lent : d .held .lent ≡ lentAfter written (h .lent)
   pub second-lent : e .held .lent ≡ lentAfter written (k .lent)
@@ -35,6 +38,9 @@ pub record AnsweredAlike (p p′ : Picked) (l l′ : List Place) (t t′ : Lent)
   pub answers : p ≡ p′
   pub opened : take (p .search .opened) l ≡ take (p′ .search .opened) l′
   pub beyond : (drop (p .search .opened) l ≡ drop (p .search .opened) (h .list)) × (drop (p′ .search .opened) l′ ≡ drop (p′ .search .opened) (k .list))
+  pub placed : List Place
+  pub first-list : l ≡ overPlaces placed (h .list)
+  pub second-list : l′ ≡ overPlaces placed (k .list)
   pub written : Effect
   pub first-lent : t ≡ lentAfter written (h .lent)
   pub second-lent : t′ ≡ lentAfter written (k .lent)

@@ -1,4 +1,4 @@
-// Reads requests for `start` and `pick` from standard input and answers each with what the call answers and leaves in the lent lists and tables.
+// Reads requests for `start` and `pick` from standard input and answers each with what the call answers and leaves in the lent lists and tables. tools/search/README.md has the format.
 mod answers;
 mod over;
 mod requests;
@@ -266,6 +266,7 @@ fn serve(buf: &mut [u8; 65536], out: &mut [u8; 65536], nodes: &mut [u64], edges:
     tell(i);
 }
 
+// The tables are the largest that a request may ask for: `requests::tables_fit`.
 fn main() {
     let mut buf = io::large_buffer();
     let mut out = io::large_buffer();

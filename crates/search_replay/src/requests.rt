@@ -1,4 +1,4 @@
-// A request: its numbers as they are read, and what they ask. The first 18 stand in `head`, in this order: the call; how many weights and profits; page, width; cutset kind; bound or best value; 1 if a path is held; open count, picks, place; words of node and edge table; places of list and scratch list; first word of each table, and the step from a word to the next.
+// A request: its numbers as they are read, and what they ask. The first 18 stand in `head`, in the order of tools/search/README.md.
 use cutset::Kind;
 use lines::at_most;
 use lines::input;

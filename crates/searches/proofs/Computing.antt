@@ -8,5 +8,5 @@ use Rattle.searches.specs.Start as Start
 use Rattle.searches.specs.Pick as Pick
 
 unfoldable pub computing : ℕ
-unfolding compileComputing givenAt placeOf rootPlace overPlaces Compile.roomsOf Compile.effect Compile.drainInto Compile.effectOf Compile.unless Compile.compileEffect Compile.after Compile.compile openIn without aboveBest Start.startRefusal Start.begun Start.unless Start.start Pick.pickCheck Pick.pickedFrom Pick.pickRefusal Pick.requestFor Pick.refusing Pick.better Pick.counted Pick.accepting Pick.ifRoom Pick.appended Pick.lentAfter Pick.afterCompile Pick.ifAbove Pick.unless Pick.pick
+unfolding compileComputing givenAt placeOf rootPlace overPlaces Compile.roomsOf Compile.effect Compile.drainInto Compile.effectOf Compile.unless Compile.compileEffect Compile.after Compile.compile openIn without aboveBest Start.startRefusal Start.begun Start.unless Start.start Pick.pickCheck Pick.pickedFrom Pick.pickRefusal Pick.requestFor Pick.refusing Pick.better Pick.onePickMore Pick.accepting Pick.ifRoom Pick.appended Pick.lentAfter Pick.afterCompile Pick.ifAbove Pick.unless Pick.pick
 computing = 0

@@ -1,4 +1,4 @@
--- Case N, 'search of H, picks 0 0 0: path 1 4 3, value 7', pick by pick, and the refusals of start and pick, as whole calls.
+-- Case N, 'search of H, picks 0 0 0', 'path 1 4 3, value 7', pick by pick, and the refusals of start and pick, as whole calls; what a compile into a list of structs leaves.
 use mathlib.Core.Path.{_≡_}
 use mathlib.Core.Bool.{Bool, true, false}
 use mathlib.Core.List.{List, [], _∷_, map}
@@ -6,11 +6,14 @@ use Prim.Native.Nat.{ℕ}
 use lib.IntN.{ℤ, pos}
 use lib.ListN.{replicate}
 use Rattle.words.specs.I64.{i64Min, i64Max}
+use Rattle.diagram.specs.Run.{exactly}
 use Rattle.diagram.specs.After4.{lastExactLayer}
 use Rattle.calls.specs.Asked.{Problem}
-use Rattle.searches.specs.Places.{Place}
+use Rattle.calls.specs.Compile.{refused}
+use Rattle.searches.specs.Places.{Place, givenAt}
+use Rattle.searches.specs.Compile as Compile
 use Rattle.searches.specs.Compile.{Lent}
-use Rattle.searches.specs.Search.{Search, mostPicks}
+use Rattle.searches.specs.Search.{Search}
 use Rattle.searches.specs.Start as Start
 use Rattle.searches.specs.Start.{start, started}
 use Rattle.searches.specs.Pick as Pick
@@ -107,7 +110,7 @@ abbrev pub Refusals : Type 0
 Refusals =
     (at 1 1 s₀ (root ∷ []) [] ≡ see (refusedBy 14) s₀ (root ∷ []) [])
     × (at 1 0 s₁ (H₁ ∷ []) [] ≡ see (refusedBy 14) s₁ (H₁ ∷ []) [])
-    × (at 1 0 (search i64Min false nothing 1 mostPicks) (old 9 ∷ []) [] ≡ see (refusedBy 14) (search i64Min false nothing 1 mostPicks) (old 9 ∷ []) [])
+    × (at 1 0 (search i64Min false nothing 1 18446744073709551615) (old 9 ∷ []) [] ≡ see (refusedBy 14) (search i64Min false nothing 1 18446744073709551615) (old 9 ∷ []) [])
     × (at 0 1 s₀ (root ∷ []) [] ≡ see (refusedBy 6) s₀ (root ∷ []) [])
     × (at 1 0 s₀ (old 9 ∷ []) [] ≡ see (refusedBy 7) s₀ (old 9 ∷ []) [])
     × (first s₀ (root ∷ old 6 ∷ []) (old 8 ∷ []) ≡ see (refusedBy 13) s₀ (root ∷ old 6 ∷ []) (old 8 ∷ []))
@@ -127,8 +130,21 @@ abbrev rootU : Search → List Place → List Place → Seen
 rootU s list scratch =
     seen (pick (record { problem = U; kind = lastExactLayer; place = 0 }) s (record { list = list; lent = record { nodes = replicate 80 0; edges = replicate 60 0; records = scratch } }))
 
--- slips: a drained record is not appended where its bound equals the best value that the same pick found; the middle one of three goes, the last one moves down, and what it left stays
+-- slips: a drained record is not appended where its bound equals the best value that the same pick found; the middle one of three goes, the last one moves down, and what it left stays; the bound alone says whether a record is compiled, not its value
 abbrev pub Slips : Type 0
 Slips =
     (rootU s₀ (root ∷ old 6 ∷ old 7 ∷ []) (old 8 ∷ old 9 ∷ []) ≡ see accepted (search (pos 3) true (4 ∷ 3 ∷ 1 ∷ replicate 61 0) 1 1) (U₂ ∷ old 6 ∷ old 7 ∷ []) (U₁ ∷ U₂ ∷ []))
     × (at 1 1 (search (pos 5) false nothing 3 4) (H₁ ∷ H₂ ∷ U₁ ∷ old 7 ∷ []) (old 8 ∷ []) ≡ see accepted (search (pos 5) false nothing 2 5) (H₁ ∷ U₁ ∷ U₁ ∷ old 7 ∷ []) (old 8 ∷ []))
+    × (first (search (pos 5) false nothing 1 1) (H₁ ∷ []) (old 8 ∷ old 9 ∷ []) ≡ see accepted (search (pos 7) true pathN 0 2) (H₁ ∷ []) (old 8 ∷ old 9 ∷ []))
+
+-- one item of weight 1 and profit 2, capacity 1, compiled exactly from the root, in tables of so many words
+abbrev one : ℕ → ℕ → Compile.After
+one nodes edges =
+    Compile.compile (record { problem = record { weights = 1 ∷ []; profits = 2 ∷ []; page = 1; width = 1 }; mode = exactly; kind = lastExactLayer; lower = i64Min; given = givenAt (place 1 (pos 0) i64Max 0 nothing) }) (record { nodes = replicate nodes 7; edges = replicate edges 8; records = old 5 ∷ [] })
+
+-- what a compile into a list of structs leaves: whole rows from each table's start on, the words behind them and the list as they were; and where each table in turn is a row short
+abbrev pub Leaves : Type 0
+Leaves =
+    (one 26 12 .lent ≡ record { nodes = 1 ∷ 0 ∷ 9223372036854775808 ∷ 0 ∷ 0 ∷ 0 ∷ 9223372036854775810 ∷ 1 ∷ 0 ∷ 1 ∷ 9223372036854775810 ∷ 0 ∷ 1 ∷ 1 ∷ 18446744073709551615 ∷ 1 ∷ 1 ∷ 1 ∷ 9223372036854775808 ∷ 0 ∷ 2 ∷ 2 ∷ 18446744073709551615 ∷ 1 ∷ 7 ∷ 7 ∷ []; edges = 0 ∷ 1 ∷ 1 ∷ 2 ∷ 0 ∷ 0 ∷ 2 ∷ 0 ∷ 0 ∷ 0 ∷ 8 ∷ 8 ∷ []; records = old 5 ∷ [] })
+    × (one 23 10 ≡ record { answer = refused 11; lent = record { nodes = 1 ∷ 0 ∷ 9223372036854775808 ∷ 0 ∷ 0 ∷ 0 ∷ 9223372036854775810 ∷ 1 ∷ 0 ∷ 1 ∷ 9223372036854775810 ∷ 0 ∷ 1 ∷ 1 ∷ 18446744073709551615 ∷ 1 ∷ 7 ∷ 7 ∷ 7 ∷ 7 ∷ 7 ∷ 7 ∷ 7 ∷ []; edges = 0 ∷ 1 ∷ 1 ∷ 2 ∷ 0 ∷ 8 ∷ 8 ∷ 8 ∷ 8 ∷ 8 ∷ []; records = old 5 ∷ [] } })
+    × (one 24 9 ≡ record { answer = refused 12; lent = record { nodes = 1 ∷ 0 ∷ 9223372036854775808 ∷ 0 ∷ 0 ∷ 0 ∷ 9223372036854775810 ∷ 1 ∷ 0 ∷ 1 ∷ 9223372036854775810 ∷ 0 ∷ 1 ∷ 1 ∷ 18446744073709551615 ∷ 1 ∷ 7 ∷ 7 ∷ 7 ∷ 7 ∷ 7 ∷ 7 ∷ 7 ∷ 7 ∷ []; edges = 0 ∷ 1 ∷ 1 ∷ 2 ∷ 0 ∷ 8 ∷ 8 ∷ 8 ∷ 8 ∷ []; records = old 5 ∷ [] } })

@@ -68,12 +68,12 @@ better (some v) path s =
     elim (ltZ (s .best) v) [ true ↦ record { best = v; held = true; path = path; opened = s .opened; picks = s .picks } | false ↦ s ]
 
 -- one accepted pick more, with that many records open
-unfoldable pub counted : ℕ → Search → Search
-counted opened s = record { best = s .best; held = s .held; path = s .path; opened = opened; picks = suc (s .picks) }
+unfoldable pub onePickMore : ℕ → Search → Search
+onePickMore opened s = record { best = s .best; held = s .held; path = s .path; opened = opened; picks = suc (s .picks) }
 
 -- the open records are these now; 'list places from the new open count on keep what they held before the pick'
 unfoldable pub accepting : Search → List Place → List Place → Lent → After
-accepting s left list l = record { answer = accepted; search = counted (length left) s; held = record { list = overPlaces left list; lent = l } }
+accepting s left list l = record { answer = accepted; search = onePickMore (length left) s; held = record { list = overPlaces left list; lent = l } }
 
 -- 13 'the open list after the pick would outgrow its room'
 unfoldable pub ifRoom : Bool → Search → Search → List Place → List Place → Lent → After

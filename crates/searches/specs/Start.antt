@@ -8,7 +8,7 @@ use lib.IntN.{ℤ}
 use lib.ListN.{length}
 use Rattle.diagram.specs.Record.{padded}
 use Rattle.calls.specs.Asked.{Problem}
-use Rattle.calls.specs.Refusals.{Check, firstOf, problemChecks}
+use Rattle.calls.specs.Refusals.{firstOf, problemChecks}
 use Rattle.searches.specs.Places.{Place, rootPlace, overPlaces}
 use Rattle.searches.specs.Search.{Search}
 

@@ -8,7 +8,6 @@ use Rattle.diagram.specs.After4.{CutsetKind}
 use Rattle.calls.specs.Asked.{Problem}
 use Rattle.searches.specs.Places.{Place}
 use Rattle.searches.specs.Search.{Search, openIn}
-use Rattle.searches.specs.Start as Start
 use Rattle.searches.specs.Start.{start, started}
 use Rattle.searches.specs.Pick as Pick
 use Rattle.searches.specs.Pick.{Asked, Held, pick}

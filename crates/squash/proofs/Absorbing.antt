@@ -32,7 +32,7 @@ changed-depth : (f : Node → Node) → ((n : Node) → SameLinks n (f n)) → (
 changed-depth f same ns r q h = update-at (λ n. n .depth ≡ nodeAt ns q .depth) f ns r q h (λ e. same (nodeAt ns r) .depth-is ∙ ap (λ (i : ℕ). nodeAt ns i .depth) (sym e)) (λ e. refl)
 
 module _ (f : Node → Node) (same : (n : Node) → SameLinks n (f n)) where
-  pub changed-mergeable : (m : ℕ) (rest : List ℕ) (d : Diagram) (r : ℕ) → r < length (d .nodes) → Mergeable m rest d → Mergeable m rest (withNodes d (update f (d .nodes) r))
+  changed-mergeable : (m : ℕ) (rest : List ℕ) (d : Diagram) (r : ℕ) → r < length (d .nodes) → Mergeable m rest d → Mergeable m rest (withNodes d (update f (d .nodes) r))
   unfolding withNodes
   changed-mergeable m rest d r h g =
       let l : length (update f (d .nodes) r) ≡ length (d .nodes) = length-set (d .nodes) r (f (nodeAt (d .nodes) r)) in
@@ -75,12 +75,12 @@ module _ (f : Node → Node) (same : (n : Node) → SameLinks n (f n)) where
         mergeable = changed-mergeable m rest d r h (g .mergeable);
       }
 
-pub deleted-links : (n : Node) → SameLinks n (withDeleted true n)
+deleted-links : (n : Node) → SameLinks n (withDeleted true n)
 unfolding withDeleted
 deleted-links n = record { depth-is = refl; newest-is = refl; best-is = refl }
 
 -- of the rows to merge, one alone
-pub one-mergeable : (m : ℕ) (rest : List ℕ) (d : Diagram) (r : ℕ) → List·Memᴰ r rest → Mergeable m rest d → Mergeable m (r ∷ []) d
+one-mergeable : (m : ℕ) (rest : List ℕ) (d : Diagram) (r : ℕ) → List·Memᴰ r rest → Mergeable m rest d → Mergeable m (r ∷ []) d
 one-mergeable m rest d r i g =
     let in-rest : (q : ℕ) → List·Memᴰ q (r ∷ []) → List·Memᴰ q rest = λ q j. subst (λ (x : ℕ). List·Memᴰ x rest) (sym (List·Memᴰ·eq-of-singleton j)) i in
     record {
@@ -91,7 +91,7 @@ one-mergeable m rest d r i g =
       wired = record { wired = g .wired .wired; depth = g .wired .depth; rest-deps = λ q j. g .wired .rest-deps q (in-rest q j) };
     }
 
-pub one-merges : (s : Settings) (d : Diagram) (oldN oldE : List ℕ) (start : ℕ) (k : Counts) (rooms : Rooms) (m : ℕ) (rest ns es : List ℕ) (r : ℕ) → List·Memᴰ r rest → Merges s d oldN oldE start k rooms m rest ns es → Merges s d oldN oldE start k rooms m (r ∷ []) ns es
+one-merges : (s : Settings) (d : Diagram) (oldN oldE : List ℕ) (start : ℕ) (k : Counts) (rooms : Rooms) (m : ℕ) (rest ns es : List ℕ) (r : ℕ) → List·Memᴰ r rest → Merges s d oldN oldE start k rooms m rest ns es → Merges s d oldN oldE start k rooms m (r ∷ []) ns es
 one-merges s d oldN oldE start k rooms m rest ns es r i g = record { stands = g .stands; held = g .held; mergeable = one-mergeable m rest d r i (g .mergeable) }
 
 -- ---- the copies of one row's edges

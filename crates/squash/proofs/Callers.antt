@@ -31,7 +31,7 @@ squashes-of s d oldN oldE start k rooms count list ns es depth st held w g i =
       rows-deep = λ r m. g .deps r (i r m .0) (i r m .1);
     }
 
-pub delete-long : (ns : List Node) (rs : List ℕ) → length (deleteAll ns rs) ≡ length ns
+delete-long : (ns : List Node) (rs : List ℕ) → length (deleteAll ns rs) ≡ length ns
 unfolding deleteAll
 delete-long ns [] = refl
 delete-long ns (r ∷ rs) = delete-long (update (withDeleted true) ns r) rs ∙ length-set ns r _

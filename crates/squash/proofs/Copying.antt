@@ -1,20 +1,18 @@
 -- The walk along a row's inbound edges, each of which is copied to the merged row, turn by turn.
 use mathlib.Core.Path.{_≡_, refl, sym, ap, subst, _∙_}
-use mathlib.Core.Bool.{Bool, true, false, cond}
+use mathlib.Core.Bool.{Bool, true, false}
 use mathlib.Core.List.{List, [], _∷_, List·Memᴰ·head}
-use Prim.Native.Nat.{ℕ, zero, suc, _+_, _-_, _*_, _<_, _≤_}
+use Prim.Native.Nat.{ℕ, suc, _+_, _-_, _*_, _<_, _≤_}
 use native.Mathlib.Omega.{arith}
-use lib.Dec.{eqb, ltb}
+use lib.Dec.{ltb}
 use lib.ListN.{length, length-set, length-append, List·getD-append}
-use borrow.Author.Tests.{eqb-true}
-use Rattle.knapsack.proofs.Cases.{by-test}
 use Rattle.diagram.specs.Node.{Node, Edge, noEdge, edgeAt}
 use Rattle.diagram.specs.Tables.{Diagram, inboundBelow, inbound}
 use Rattle.diagram.specs.Run.{Settings, Run, going, stopped, need}
 use Rattle.diagram.specs.Rule4.{pushEdge, addEdge}
 use Rattle.diagram.specs.Rule6.{copyEdges}
 use Rattle.layout.specs.Rows.{edgeWords, nodeWords}
-use Rattle.theorems.proofs.Links.{newestBelow}
+use Rattle.theorems.proofs.Links.{newestBelow, newest-low, NewestIs, newest-found, none-inbound}
 use Rattle.rows.specs.Access.{NodeRead, EdgeRead}
 use Rattle.branch.specs.declared.Counts.{Counts}
 use Rattle.branch.specs.declared.Rooms.{Rooms}
@@ -24,39 +22,6 @@ use Rattle.branch.specs.declared.Branch.{Branch}
 use Rattle.branch.specs.State.{countsOf, Stands, Held, Stepped, Ready, Appended}
 use Rattle.squash.specs.Merging.{Mergeable, Merges, Sits, EdgesCopied}
 use Rattle.squash.proofs.Tables.{edges-in, nodes-in, ready-of}
-
--- ---- the newest edge below a number, and the inbound edges below it
-
-pub newest-low : (p : ℕ) (es : List Edge) (r : ℕ) → newestBelow p es r ≤ p
-unfolding newestBelow
-newest-low zero es r = omega arith
-newest-low (suc p) es r =
-    by-test (λ b. cond b (suc p) (newestBelow p es r) ≤ suc p) (eqb (edgeAt es p .to) r)
-    (λ q. omega arith)
-    (λ q. omega (arith, newest-low p es r))
-
--- edge e is the newest of row r below p
-pub record Newest (p : ℕ) (es : List Edge) (r e : ℕ) : Type 0 where
-  pub below : e < p
-  pub ends : edgeAt es e .to ≡ r
-  pub splits : inboundBelow p es r ≡ e ∷ inboundBelow e es r
-
-pub newest-some : (p : ℕ) (es : List Edge) (r e : ℕ) → newestBelow p es r ≡ suc e → Newest p es r e
-unfolding newestBelow inboundBelow
-newest-some zero es r e q = absurd (omega arith)
-newest-some (suc p) es r e q =
-    (by-test (λ b. eqb (edgeAt es p .to) r ≡ b → cond b (suc p) (newestBelow p es r) ≡ suc e → Newest (suc p) es r e) (eqb (edgeAt es p .to) r)
-    (λ t u v. let z : p ≡ e = omega arith in subst (λ (x : ℕ). Newest (suc p) es r x) z (record { below = omega arith; ends = eqb-true _ _ t; splits = rw t }))
-    (λ t u v. let n = newest-some p es r e v in record { below = omega (arith, n .below); ends = n .ends; splits = rw t (n .splits) }))
-    refl q
-
-pub newest-none : (p : ℕ) (es : List Edge) (r : ℕ) → newestBelow p es r ≡ 0 → inboundBelow p es r ≡ []
-unfolding newestBelow inboundBelow
-newest-none zero es r q = refl
-newest-none (suc p) es r q =
-    (by-test (λ b. cond b (suc p) (newestBelow p es r) ≡ 0 → cond b (p ∷ inboundBelow p es r) (inboundBelow p es r) ≡ []) (eqb (edgeAt es p .to) r)
-    (λ t u. absurd (omega arith))
-    (λ t u. newest-none p es r u)) q
 
 -- ---- one copy
 
@@ -143,11 +108,11 @@ module _ (start : ℕ) (k₀ : Counts) (rooms : Rooms) (m r : ℕ) (ns₀ es₀ 
   module _ (k : Counts) (link : ℕ) (ns es : List ℕ) (turn : CopyTurn start k₀ rooms m r ns₀ es₀ k link ns es) where
     -- the edge of this turn
     module _ (s : Settings) (d : Diagram) (oldN oldE : List ℕ) (g : Merges s d oldN oldE start k₀ rooms m (r ∷ []) ns₀ es₀) (z : 0 < link) where
-      this : Newest (turn .so-far s d oldN oldE g .below) (d .edges) r (link - 1)
+      this : NewestIs (turn .so-far s d oldN oldE g .below) (d .edges) r (link - 1)
       this =
           let c = turn .so-far s d oldN oldE g in
           let y : newestBelow (c .below) (d .edges) r ≡ suc (link - 1) = omega (arith, c .link-is) in
-          newest-some (c .below) (d .edges) r (link - 1) y
+          newest-found (c .below) (d .edges) r (link - 1) y
 
       this-in : link - 1 < length (d .edges)
       this-in = let c = turn .so-far s d oldN oldE g in omega (arith, this .below, c .low)
@@ -172,7 +137,7 @@ module _ (start : ℕ) (k₀ : Counts) (rooms : Rooms) (m r : ℕ) (ns₀ es₀ 
           does = λ s d oldN oldE g.
               let c = turn .so-far s d oldN oldE g in
               let y : newestBelow (c .below) (d .edges) r ≡ 0 = omega (arith, c .link-is) in
-              let e : going (c .now) ≡ copyEdges s m (inbound (d .edges) r) d = ap (λ (l : List ℕ). copyEdges s m l (c .now)) (sym (newest-none (c .below) (d .edges) r y)) ∙ c .left in
+              let e : going (c .now) ≡ copyEdges s m (inbound (d .edges) r) d = ap (λ (l : List ℕ). copyEdges s m l (c .now)) (sym (none-inbound (c .below) (d .edges) r y)) ∙ c .left in
               subst (λ (run : Run). Stepped run oldN oldE (Going k) ns es) e (record { step-is = ap Going (c .stands .counts-are); held = c .held });
         }
 

@@ -22,6 +22,7 @@ use Rattle.branch.specs.declared.Rooms.{Rooms}
 use Rattle.branch.specs.declared.Step.{Step}
 use Rattle.branch.specs.declared.Step.the-variants.{Going, Stopped}
 use Rattle.branch.specs.State.{countsOf, Held, Stepped, Ready}
+use Rattle.branch.proofs.Children.{counted-nodes}
 use Rattle.squash.specs.Merging.{Merges, Sits, AllMerged}
 use Rattle.squash.specs.Squashing.{Done, Squashes, Squashable, RowMade, NewMerged}
 use Rattle.squash.proofs.Changing.{row-mem}
@@ -41,12 +42,6 @@ merged-links : (c dp : ℕ) → (mergedRow c dp .newest ≡ 0) × (mergedRow c d
 unfolding mergedRow asRelaxed fresh
 merged-links c dp = (refl, refl, refl)
 
-counted : (d : Diagram) (k : Counts) → k ≡ countsOf d → k .nodes ≡ length (d .nodes)
-counted d k e = ap (λ (c : Counts). c .nodes) e
-
-counted-edges : (d : Diagram) (k : Counts) → k ≡ countsOf d → k .edges ≡ length (d .edges)
-counted-edges d k e = ap (λ (c : Counts). c .edges) e
-
 pushed-held : (n : Node) (d : Diagram) (oldN oldE ns es ns₁ : List ℕ) → ns₁ ≡ over (nodeTable (d .nodes ++ (n ∷ []))) oldN → Held d oldN oldE ns es → Held (pushNode n d) oldN oldE ns₁ es
 unfolding pushNode withNodes
 pushed-held n d oldN oldE ns es ns₁ e held = record { nodes-are = e; edges-are = held .edges-are }
@@ -61,7 +56,7 @@ module _ (start : ℕ) (k : Counts) (rooms : Rooms) (capacity keep count : ℕ) 
   new-10 h =
       record {
         does = λ s d oldN oldE g.
-            let n = counted d k (g .stands .counts-are) in
+            let n = counted-nodes d k (g .stands .counts-are) in
             let f : ltb (length (d .nodes) - d .start) 1024 ≡ false = le-ltb (length (d .nodes) - d .start) 1024 (omega (arith, g .stands .first-is)) in
             rw f (record { step-is = ap (Stopped 10) (g .stands .counts-are); held = g .held; rows-are = tt });
         beyond = refl;
@@ -72,7 +67,7 @@ module _ (start : ℕ) (k : Counts) (rooms : Rooms) (capacity keep count : ℕ) 
   new-11 h i =
       record {
         does = λ s d oldN oldE g.
-            let n = counted d k (g .stands .counts-are) in
+            let n = counted-nodes d k (g .stands .counts-are) in
             let f : ltb (length (d .nodes) - d .start) 1024 ≡ true = lt-ltb (length (d .nodes) - d .start) 1024 (omega (arith, g .stands .first-is)) in
             let b : ltb (length (d .nodes)) (s .nodeRoom) ≡ false = le-ltb (length (d .nodes)) (s .nodeRoom) (omega (arith, g .stands .node-room)) in
             rw (f, b) (record { step-is = ap (Stopped 11) (g .stands .counts-are); held = g .held; rows-are = tt });
@@ -122,7 +117,7 @@ module _ (start : ℕ) (k : Counts) (rooms : Rooms) (capacity keep count : ℕ) 
       new-merges =
           let n = mergedRow capacity (first .depth) in
           let i = node-is n d in
-          let c = counted d k (g .stands .counts-are) in
+          let c = counted-nodes d k (g .stands .counts-are) in
           let st = g .stands in
           record {
             stands = record {
@@ -159,7 +154,7 @@ module _ (start : ℕ) (k : Counts) (rooms : Rooms) (capacity keep count : ℕ) 
       into-new : (s : Settings) (d : Diagram) (oldN oldE : List ℕ) (g : Squashes s d oldN oldE start k rooms count list ns es) → mergeInto nowhere s capacity (take keep (take count list)) (drop keep (take count list)) d ≡ squashed (mergeAll s (length (d .nodes)) (drop keep (take count list)) (pushNode (mergedRow capacity (nodeAt (d .nodes) (getD (drop keep (take count list)) 0 0) .depth)) d)) (λ e. e) (take keep (take count list) ++ (length (d .nodes) ∷ []))
       unfolding mergeInto squashNeed
       into-new s d oldN oldE g =
-          let n = counted d k (g .stands .counts-are) in
+          let n = counted-nodes d k (g .stands .counts-are) in
           let f : ltb (length (d .nodes) - d .start) 1024 ≡ true = lt-ltb (length (d .nodes) - d .start) 1024 (omega (arith, g .stands .first-is)) in
           let b : ltb (length (d .nodes)) (s .nodeRoom) ≡ true = lt-ltb (length (d .nodes)) (s .nodeRoom) (omega (arith, g .stands .node-room)) in
           rw (f, b)
@@ -167,7 +162,7 @@ module _ (start : ℕ) (k : Counts) (rooms : Rooms) (capacity keep count : ℕ) 
       new-stepped : (s : Settings) (d : Diagram) (oldN oldE : List ℕ) (g : Squashes s d oldN oldE start k rooms count list ns es) → Stepped (mergeAll s (length (d .nodes)) (drop keep (take count list)) (pushNode (mergedRow capacity (nodeAt (d .nodes) (getD (drop keep (take count list)) 0 0) .depth)) d)) oldN oldE step ns₂ es₂
       new-stepped s d oldN oldE g =
           subst (λ (dp : ℕ). Stepped (mergeAll s (length (d .nodes)) (drop keep (take count list)) (pushNode (mergedRow capacity dp) d)) oldN oldE step ns₂ es₂) (first-depth s d oldN oldE g)
-          (subst (λ (m : ℕ). Stepped (mergeAll s m (drop keep (take count list)) (pushNode (mergedRow capacity (first .depth)) d)) oldN oldE step ns₂ es₂) (counted d k (g .stands .counts-are))
+          (subst (λ (m : ℕ). Stepped (mergeAll s m (drop keep (take count list)) (pushNode (mergedRow capacity (first .depth)) d)) oldN oldE step ns₂ es₂) (counted-nodes d k (g .stands .counts-are))
           (did .does s (pushNode (mergedRow capacity (first .depth)) d) oldN oldE (new-merges s d oldN oldE g)))
 
       pub new-stopped : (n : ℕ) (k′ : Counts) → step ≡ Stopped n k′ → NewMerged start k rooms capacity keep count list ns es step list ns₂ es₂
@@ -195,6 +190,6 @@ module _ (start : ℕ) (k : Counts) (rooms : Rooms) (capacity keep count : ℕ) 
       pub new-going : (k′ : Counts) → step ≡ Going k′ → NewMerged start k rooms capacity keep count list ns es (Going k′) (set list keep (k .nodes)) ns₂ es₂
       new-going k′ q =
           record {
-            does = λ s d oldN oldE g. rw (into-new s d oldN oldE g) (listed-new k′ q (length (d .nodes)) (counted d k (g .stands .counts-are)) _ oldN oldE (new-stepped s d oldN oldE g));
+            does = λ s d oldN oldE g. rw (into-new s d oldN oldE g) (listed-new k′ q (length (d .nodes)) (counted-nodes d k (g .stands .counts-are)) _ oldN oldE (new-stepped s d oldN oldE g));
             beyond = beyond-set list keep count l h (k .nodes);
           }

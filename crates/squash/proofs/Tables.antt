@@ -1,5 +1,5 @@
 -- What the tables' lengths allow where they hold a diagram.
-use mathlib.Core.Path.{_≡_, refl, ap}
+use mathlib.Core.Path.{_≡_, ap}
 use mathlib.Core.List.{List}
 use Prim.Native.Nat.{ℕ, _*_, _≤_}
 use native.Mathlib.Omega.{arith}
@@ -10,17 +10,10 @@ use Rattle.diagram.specs.Run.{Settings}
 use Rattle.layout.specs.Table.{over}
 use Rattle.layout.specs.Rows.{nodeWords, edgeWords, encodeNode, encodeEdge, nodeTable, edgeTable}
 use Rattle.layout.proofs.Table.{length-words}
+use Rattle.layout.proofs.Rows.{node-width, edge-width}
 use Rattle.branch.specs.declared.Counts.{Counts}
 use Rattle.branch.specs.declared.Rooms.{Rooms}
 use Rattle.branch.specs.State.{Stands, Held, Ready}
-
-node-width : (n : Node) → length (encodeNode n) ≡ nodeWords
-unfolding encodeNode
-node-width n = refl
-
-edge-width : (e : Edge) → length (encodeEdge e) ≡ edgeWords
-unfolding encodeEdge
-edge-width e = refl
 
 -- words over old ones: neither gets lost
 over-long : (ws old : List ℕ) → (length ws ≤ length (over ws old)) × (length old ≤ length (over ws old))

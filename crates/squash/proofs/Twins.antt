@@ -26,7 +26,7 @@ use Rattle.squash.proofs.Tables.{nodes-in}
 use Rattle.squash.proofs.Absorbing.{changed-merges, mem-from}
 use Rattle.squash.proofs.Layer.{drop-mem, first-rest, rows-stay, merge-long, squash-stops}
 
-pub relaxed-links : (n : Node) → SameLinks n (asRelaxed n)
+relaxed-links : (n : Node) → SameLinks n (asRelaxed n)
 unfolding asRelaxed
 relaxed-links n = record { depth-is = refl; newest-is = refl; best-is = refl }
 

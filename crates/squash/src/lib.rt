@@ -1,7 +1,7 @@
 // `_restrict` and `_relax` of clean.rs: a layer that is too wide loses its last rows, or has them merged into one.
 ghost use mathlib.Core.Path.{_≡_};
 ghost use mathlib.Core.List.{[], _∷_};
-ghost use Prim.Native.Nat.{_+_, _-_, _*_, _<_, _≤_, max};
+ghost use Prim.Native.Nat.{_+_, _-_, _*_, _<_, _≤_};
 ghost use lib.ListN.{length, getD, take, drop};
 ghost use Rattle.diagram.specs.Node.{withDeleted, asRelaxed};
 ghost use Rattle.layout.specs.Rows.{nodeWords};
@@ -19,7 +19,7 @@ use rows::Node;
 use rows::NodeId;
 
 // A kept row with the merged rows' capacity, or none.
-pub enum Twin {
+enum Twin {
     At(NodeId),
     Missing,
 }
@@ -61,12 +61,6 @@ pub fn restrict(nodes: &mut [u64], list: &[usize], count: usize, width: usize)
     }
 }
 
-fn larger(a: u64, b: u64) -> u64
-    ensures { λ r. ⌜ r ≡ max a b ⌝ }
-{
-    if a < b { b } else { a }
-}
-
 // The largest capacity of the rows in places from .. count: from the last one down, as the definition does.
 fn merged_capacity(nodes: &[u64], list: &[usize], from: usize, count: usize) -> u64
     requires { ⌜ Placed (now list) count (now nodes) × (from ≤ count) ⌝ }
@@ -76,7 +70,7 @@ fn merged_capacity(nodes: &[u64], list: &[usize], from: usize, count: usize) -> 
     let mut i = count;
     while from < i {
         i -= 1;
-        most = larger(rows::read_capacity(nodes, row_at(list, i)), most);
+        most = words::larger(rows::read_capacity(nodes, row_at(list, i)), most);
     }
     most
 }
@@ -118,7 +112,8 @@ fn copy_edges(
     of: NodeId,
 ) -> Step
     requires { ⌜ Sits start k rooms (merged .0) (of .0 ∷ []) (now nodes) (now edges) ⌝ }
-    ensures { λ r. ⌜ EdgesCopied start k rooms (merged .0) (of .0) (now (nodes .entry)) (now (edges .entry)) r (now (nodes .exit)) (now (edges .exit)) ⌝ }
+    ensures { λ r.
+        ⌜ EdgesCopied start k rooms (merged .0) (of .0) (now (nodes .entry)) (now (edges .entry)) r (now (nodes .exit)) (now (edges .exit)) ⌝ }
 {
     let m = merged.0;
     let r = of.0;
@@ -157,7 +152,9 @@ fn merge_all(
     merged: NodeId,
 ) -> Step
     requires { ⌜ Sits start k rooms (merged .0) (drop from (take count (now list))) (now nodes) (now edges) × (count ≤ length (now list)) ⌝ }
-    ensures { λ r. ⌜ AllMerged start k rooms (merged .0) from count (now (list .entry)) (now (nodes .entry)) (now (edges .entry)) r (now (nodes .exit)) (now (edges .exit)) ⌝ }
+    ensures { λ r.
+        ⌜ AllMerged start k rooms (merged .0) from count (now (list .entry)) (now (nodes .entry)) (now (edges .entry)) r (now (nodes .exit))
+        (now (edges .exit)) ⌝ }
 {
     let m = merged.0;
     let mut counts = k;
@@ -215,7 +212,9 @@ fn merge_into_twin(
     twin: NodeId,
 ) -> Step
     requires { ⌜ Sits start k rooms (twin .0) (drop keep (take count (now list))) (now nodes) (now edges) × ((keep < count) × (count ≤ length (now list))) ⌝ }
-    ensures { λ r. ⌜ TwinMerged start k rooms (twin .0) keep count (now (list .entry)) (now (nodes .entry)) (now (edges .entry)) r (now (nodes .exit)) (now (edges .exit)) ⌝ }
+    ensures { λ r.
+        ⌜ TwinMerged start k rooms (twin .0) keep count (now (list .entry)) (now (nodes .entry)) (now (edges .entry)) r (now (nodes .exit))
+        (now (edges .exit)) ⌝ }
 {
     set_relaxed(nodes, twin);
     let step = merge_all(nodes, edges, list, keep, count, start, k, rooms, twin);
@@ -239,7 +238,9 @@ fn merge_into_new(
     capacity: u64,
 ) -> Step
     requires { ⌜ Squashable start k rooms keep count (now list) (now nodes) (now edges) ⌝ }
-    ensures { λ r. ⌜ NewMerged start k rooms capacity keep count (now (list .entry)) (now (nodes .entry)) (now (edges .entry)) r (now (list .exit)) (now (nodes .exit)) (now (edges .exit)) ⌝ }
+    ensures { λ r.
+        ⌜ NewMerged start k rooms capacity keep count (now (list .entry)) (now (nodes .entry)) (now (edges .entry)) r (now (list .exit))
+        (now (nodes .exit)) (now (edges .exit)) ⌝ }
 {
     let n = k.nodes;
     let e = k.edges;
@@ -276,7 +277,9 @@ pub fn relax(
     rooms: Rooms,
 ) -> Step
     requires { ⌜ Squashable start k rooms (width - 1) count (now list) (now nodes) (now edges) × (0 < width) ⌝ }
-    ensures { λ r. ⌜ Relaxed start k rooms width count (now (list .entry)) (now (nodes .entry)) (now (edges .entry)) r (now (list .exit)) (now (nodes .exit)) (now (edges .exit)) ⌝ }
+    ensures { λ r.
+        ⌜ Relaxed start k rooms width count (now (list .entry)) (now (nodes .entry)) (now (edges .entry)) r (now (list .exit)) (now (nodes .exit))
+        (now (edges .exit)) ⌝ }
 {
     let keep = width - 1;
     let capacity = merged_capacity(nodes, list, keep, count);

@@ -8,7 +8,7 @@ use lib.Seq.{getD-drop, drop-cons}
 use borrow.Author.Tests.{ltb-false}
 use Rattle.words.specs.I64.{top, satAdd}
 use Rattle.knapsack.specs.FastBound.{fastBound, totalProfit}
-use Rattle.knapsack.specs.Items.{Item}
+use Rattle.knapsack.specs.Items.{Item, noItem}
 use Rattle.knapsack.proofs.Best.{best-no-items}
 use Rattle.knapsack.proofs.FastBound.{fastBound-at-least-best, fastBound-at-most-total, fastBound-one-left}
 use Rattle.diagram.specs.Node.{Node, nodeAt, edgeAt}
@@ -22,7 +22,6 @@ use Rattle.theorems.proofs.Arc.{core-dep, outlook, Stepped}
 use Rattle.theorems.proofs.Growth.{Step, store-is, step-ready, Ended, through, died, grown-keeps}
 use Rattle.theorems.proofs.Steps.{completion, step-lemma, Ends}
 use Rattle.theorems.proofs.Exactness.{stored-fits, empty-fits}
-use Rattle.theorems.proofs.Path.{noItem}
 
 total-small : (is : List Item) → ((i : ℕ) → getD is i noItem .profit ≤ 1000000) → totalProfit is ≤ 1000000 * length is
 unfolding totalProfit

@@ -2,13 +2,14 @@
 use mathlib.Core.Path.{_≡_, refl, sym, ap, subst, _∙_}
 use mathlib.Core.Bool.{false, cond}
 use mathlib.Core.List.{List, [], _∷_, _++_, List·Memᴰ, List·Memᴰ·head, List·Memᴰ·tail, List·Memᴰ·not-nil}
-use Prim.Native.Nat.{ℕ, suc, _+_, _-_, _≤_, _<_}
+use Prim.Native.Nat.{ℕ, suc, _+_, _-_, _≤_, _<_, min}
 use native.Mathlib.Omega.{arith}
 use lib.Dec.{leb, ltb}
 use lib.ListN.{length, length-append, drop, take, length-set, length-drop}
 use lib.Seq.{getD-set-same, getD-set-other, getD-append-seam}
 use borrow.Author.Tests.{leb-true, leb-false, ltb-true, ltb-false}
-use Rattle.words.specs.I64.{mid, satAdd}
+use Rattle.words.specs.I64.{mid, top, satAdd}
+use Rattle.words.proofs.Laws.{satAdd-natural}
 use Rattle.knapsack.specs.FastBound.{fastBound}
 use Rattle.knapsack.specs.Items.{Item, counted, takes, skips}
 use Rattle.knapsack.proofs.Cases.{by-test}
@@ -90,9 +91,9 @@ pub core-del : (a b : Node) → core a ≡ core b → a .deleted ≡ b .deleted
 unfolding core
 core-del a b e = ap (λ (n : Node). n .deleted) e
 
-pub core-exact : (a b : Node) → core a ≡ core b → a .exact ≡ b .exact
-unfolding core
-core-exact a b e = ap (λ (n : Node). n .exact) e
+pub handed-is : (s c : ℕ) (d : Diagram) → handed (d .nodes) s c ≡ min top (nodeAt (d .nodes) s .value + c)
+unfolding handed
+handed-is s c d = satAdd-natural (nodeAt (d .nodes) s .value) c
 
 pub val-handed : (s c : ℕ) (d e : Diagram) → nodeAt (e .nodes) s .value ≡ nodeAt (d .nodes) s .value → handed (e .nodes) s c ≡ handed (d .nodes) s c
 unfolding handed

@@ -182,10 +182,6 @@ record ExactIn (items : List Item) (d : Diagram) (L : Range) (x : ℕ) : Type 0 
 module _ (items : List Item) (lower : ℕ) (d : Diagram) (x b : ℕ) (hb : lower < x) (ht : x ≤ top) (hd : nodeAt (d .nodes) 0 .deleted ≡ false) (hx : x ≤ potential items (nodeAt (d .nodes) 0))
     (ex : (r : ℕ) → r < b → nodeAt (d .nodes) r .exact ≡ true) (S : Range) (S-deep : 0 < S .lo) (S-is : S .hi ≡ b) (cl : List ℕ)
     (has : (L : Range) → List·Memᴰ L (d .layers) → (r : ℕ) → L .lo ≤ r → r < L .hi → nodeAt (d .nodes) r .exact ≡ false → (e : ℕ) → e < length (d .edges) → edgeAt (d .edges) e .to ≡ r → edgeAt (d .edges) e .from < length (d .nodes) → nodeAt (d .nodes) (edgeAt (d .edges) e .from) .exact ≡ true → List·Memᴰ (edgeAt (d .edges) e .from) cl) where
-  tower-low : {L : Range} {ls : List Range} → Tower items lower d (L ∷ ls) → L .lo ≤ L .hi
-  tower-low (root p q) = omega arith
-  tower-low (more p q s t) = q
-
   walk-down : {U L : Range} {ls : List Range} → Tower items lower d (U ∷ L ∷ ls) → ((T : Range) → List·Memᴰ T (U ∷ L ∷ ls) → List·Memᴰ T (d .layers)) → U .hi ≤ length (d .nodes) → List·Memᴰ S (U ∷ L ∷ ls) ⊎ (U .hi ≤ b) → CutRow items d x cl ⊎ ExactIn items d U x
   walk-down (more {U = U} {L = L} p q s (root lo hi)) part hl wh =
       let n = step-x items lower d 0 (U .lo) (U .hi) x hb ht hx (s 0 (omega arith) hi hd) in

@@ -7,7 +7,7 @@ use Prim.Native.Nat.{ℕ, zero, suc, _≤_, _<_}
 use native.Mathlib.Omega.{arith}
 use lib.ListN.{length, getD}
 use Rattle.words.specs.I64.{top}
-use Rattle.knapsack.specs.Items.{Item}
+use Rattle.knapsack.specs.Items.{Item, noItem}
 use Rattle.knapsack.proofs.Cases.{by-test}
 use Rattle.diagram.specs.After3.{decisionsUp, pathTo}
 use Rattle.diagram.specs.After4.{CutsetKind, lastExactLayer, frontier, Cutset, listRow, listRows, layerCutset, frontierEdges, frontierRows, frontierLayers, noCutset, cutsetOf}
@@ -24,7 +24,7 @@ use Rattle.theorems.proofs.Exactness.{LastLayer, Exactness, relaxing-is
 use Rattle.theorems.proofs.Local.{plain, bounds-dressed}
 use Rattle.theorems.proofs.Cutset.{Listing, plain-exact, add, row-added, rows-added, start-listing}
 use Rattle.theorems.proofs.Drain.{cut-listing, plain-val, outcome-is, outcome-plain}
-use Rattle.theorems.proofs.Path.{noItem, Valid, upFrom, path-up, up-valid, exact-deep, valid-small}
+use Rattle.theorems.proofs.Path.{Valid, upFrom, path-up, up-valid, exact-deep, valid-small}
 
 -- a drained record is of a row of the cutset
 pub record DrainedFrom (pre : List ℕ) (d : Diagram) (l : List ℕ) (r : Record) : Type 0 where

@@ -3,18 +3,18 @@ use mathlib.Core.Path.{_≡_, refl, ap, subst, _∙_}
 use mathlib.Core.List.{List, [], _∷_}
 use Prim.Native.Nat.{ℕ, suc, _+_, _<_}
 use native.Mathlib.Omega.{arith}
-use lib.ListN.{length, getD, drop}
+use lib.ListN.{length}
 use Rattle.knapsack.specs.Items.{Item, takes, skips}
-use Rattle.diagram.specs.Node.{Node, update}
+use Rattle.diagram.specs.Node.{Node}
 use Rattle.diagram.specs.Record.{Record}
 use Rattle.diagram.specs.Rule1.{rootOnly}
 use Rattle.diagram.specs.Rule2.{ordered, store, expandSquashed, layerStep}
 use Rattle.diagram.specs.Rule3.{branchTake, branchBoth, noteFast, expand, expandAll}
-use Rattle.diagram.specs.Rule4.{pushEdge, addEdge, lookup, pushNode, newChild, branchTo, branchOn}
+use Rattle.diagram.specs.Rule4.{pushEdge, addEdge, pushNode, newChild, branchTo, branchOn}
 use Rattle.diagram.specs.Rule5.{withLast, squash}
-use Rattle.diagram.specs.Rule6.{Squashed, layer, halted, restrict, copyEdges, mergeAll, squashed, keepFirst, mergeInto, merge, relax}
-use Rattle.diagram.specs.Run.{Mode, exactly, restricted, relaxing, Settings, Run, going}
-use Rattle.diagram.specs.Tables.{Range, LastExact, Diagram, Found, at, nowhere, withNodes, coming}
+use Rattle.diagram.specs.Rule6.{Squashed, restrict, copyEdges, mergeAll, squashed, keepFirst, mergeInto, merge, relax}
+use Rattle.diagram.specs.Run.{Mode, exactly, restricted, relaxing, Settings, Run}
+use Rattle.diagram.specs.Tables.{Range, Diagram, Found, at, nowhere, withNodes}
 use Rattle.theorems.proofs.Holds.{Holds, held, void, then-holds, need-holds, only-holds, holds-map, held-inv, SquashHolds, settled, halts, squashNeed-holds, squashIf-holds}
 use Rattle.theorems.proofs.Links.{Wired}
 use Rattle.theorems.proofs.Fits.{Fits, root-fits, step-fits}

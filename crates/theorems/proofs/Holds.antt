@@ -27,10 +27,6 @@ unfolding onlyIf
 only-holds true r d f g = f refl
 only-holds false r d f g = held (g refl)
 
-pub and-holds : {P Q : Diagram → Type 0} {r : Run} → Holds P r → Holds Q r → Holds (λ d. P d × Q d) r
-and-holds (held p) (held q) = held (p, q)
-and-holds void void = void
-
 pub holds-map : {P Q : Diagram → Type 0} {r : Run} → ((d : Diagram) → P d → Q d) → Holds P r → Holds Q r
 holds-map f (held {d = d} p) = held (f d p)
 holds-map f void = void

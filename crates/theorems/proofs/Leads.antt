@@ -7,7 +7,7 @@ use Prim.Native.Nat.{ℕ, _≤_, _<_}
 use native.Mathlib.Omega.{arith}
 use lib.ListN.{length, getD}
 use Rattle.words.specs.I64.{top}
-use Rattle.knapsack.specs.Items.{Item}
+use Rattle.knapsack.specs.Items.{Item, noItem}
 use Rattle.knapsack.proofs.Cases.{by-test}
 use Rattle.diagram.specs.After1.{exactPath}
 use Rattle.diagram.specs.After2.{neverSquashed}
@@ -21,7 +21,7 @@ use Rattle.theorems.proofs.Steps.{potential, finished-ends, worthOf, ro
 use Rattle.theorems.proofs.Exactness.{relaxing-is-full, Sane}
 use Rattle.theorems.proofs.Terminals.{Tops}
 use Rattle.theorems.proofs.Drain.{LeadsTo, outcome-leads, outcome-exact, exact-ensures}
-use Rattle.theorems.proofs.Path.{noItem, Valid, valid-small}
+use Rattle.theorems.proofs.Path.{Valid, valid-small}
 use Rattle.theorems.proofs.Drained.{drained-valid, drained-deeper}
 use Rattle.theorems.proofs.Above.{completion-small}
 use Rattle.theorems.proofs.Runs.{Compiled, compiled}

@@ -18,14 +18,14 @@ use Rattle.diagram.specs.Rule2.{store, storeEmpty, storeLast, hasRows, grown}
 use Rattle.diagram.specs.Rule3.{noteFast}
 use Rattle.diagram.specs.Rule4.{handed, receive, landed, pushEdge, pushNode, childOf}
 use Rattle.diagram.specs.Rule5.{withLast}
-use Rattle.diagram.specs.Rule6.{mergedRow, copyEdges, mergeAll}
+use Rattle.diagram.specs.Rule6.{mergedRow, copyEdges}
 use Rattle.diagram.specs.Run.{Mode, Settings}
 use Rattle.diagram.specs.Tables.{Diagram, withNodes, inboundBelow, inbound}
 use Rattle.theorems.proofs.Holds.{Holds, holds-map}
 use Rattle.theorems.proofs.Rows.{update-at, snoc-at}
 use Rattle.theorems.proofs.Move.{Move, note, edge, child}
 use Rattle.theorems.proofs.Arc.{Coming}
-use Rattle.theorems.proofs.Merge.{MergeMove, flag, copy, merging-keeps, Merged, merge-move-merged, Ending, copy-trail, Inside, Part, merge-trail}
+use Rattle.theorems.proofs.Merge.{MergeMove, flag, copy, merging-keeps, Merged, merge-move-merged, Ending, copy-trail}
 use Rattle.theorems.proofs.Squash.{bare-dep, Merging, Way}
 use Rattle.theorems.proofs.Growth.{Ready, Step, step-keeps, squash-keeps, Ended, through, died, grown-keeps}
 
@@ -248,9 +248,6 @@ merge-wired k m rest d e (copy s decision c x b q i l h) w =
 pub copies-wired : (opts : Settings) (k m : ℕ) (rest es : List ℕ) (d : Diagram) → d .start ≤ m → m < length (d .nodes) → Ending rest es d → WiredMerge k m rest d → Holds (WiredMerge k m rest) (copyEdges opts m es d)
 copies-wired opts k m rest es d l h n w = holds-map (λ e t. merging-keeps (WiredMerge k m rest) (merge-wired k m rest) t w) (copy-trail opts m rest es d l h n)
 
-pub merges-wired : (opts : Settings) (k m : ℕ) (rest rs : List ℕ) (d : Diagram) → d .start ≤ m → m < length (d .nodes) → Inside d m rs → Part rs rest → WiredMerge k m rest d → Holds (WiredMerge k m rest) (mergeAll opts m rs d)
-merges-wired opts k m rest rs d l h i q w = holds-map (λ e t. merging-keeps (WiredMerge k m rest) (merge-wired k m rest) t w) (merge-trail opts m rest rs d l h i q)
-
 pub last-wired : (d : Diagram) → Wired d → Wired (withLast d)
 unfolding withLast
 last-wired d w = record { arrows = λ i h. let a = w .arrows i h in record { from-in = a .from-in; to-in = a .to-in; rises = a .rises; deeper = a .deeper }; link = w .link; first = w .first; bests = w .bests }
@@ -337,3 +334,36 @@ best-parent-smaller d w r e h q = go (nodeAt (d .nodes) r .best) (w .bests r h) 
 pub next-walk : (d : Diagram) → Wired d → (r : ℕ) → r < length (d .nodes) → alongNext (length (d .edges)) (d .edges) (nodeAt (d .nodes) r .newest) ≡ inbound (d .edges) r
 unfolding inbound
 next-walk d w r h = rw (w .first r h) (walk-inbound (d .edges) (record { link = w .link }) r (length (d .edges)) (length (d .edges)) (omega arith) (omega arith))
+
+-- ---- the newest edge below a number, and the inbound edges below it
+
+pub newest-low : (p : ℕ) (es : List Edge) (r : ℕ) → newestBelow p es r ≤ p
+unfolding newestBelow
+newest-low zero es r = omega arith
+newest-low (suc p) es r =
+    by-test (λ b. cond b (suc p) (newestBelow p es r) ≤ suc p) (eqb (edgeAt es p .to) r)
+    (λ _. omega arith)
+    (λ _. omega (arith, newest-low p es r))
+
+-- edge e is the newest of the first p edges that end in row r
+pub record NewestIs (p : ℕ) (es : List Edge) (r e : ℕ) : Type 0 where
+  pub below : e < p
+  pub ends : edgeAt es e .to ≡ r
+  pub splits : inboundBelow p es r ≡ e ∷ inboundBelow e es r
+
+pub newest-found : (p : ℕ) (es : List Edge) (r e : ℕ) → newestBelow p es r ≡ suc e → NewestIs p es r e
+unfolding newestBelow inboundBelow
+newest-found zero es r e q = absurd (omega arith)
+newest-found (suc p) es r e q =
+    (by-test (λ b. eqb (edgeAt es p .to) r ≡ b → cond b (suc p) (newestBelow p es r) ≡ suc e → NewestIs (suc p) es r e) (eqb (edgeAt es p .to) r)
+    (λ t u v. let z : p ≡ e = omega arith in subst (λ (x : ℕ). NewestIs (suc p) es r x) z (record { below = omega arith; ends = eqb-true _ _ t; splits = rw t }))
+    (λ t u v. let n = newest-found p es r e v in record { below = omega (arith, n .below); ends = n .ends; splits = rw t (n .splits) }))
+    refl q
+
+pub none-inbound : (p : ℕ) (es : List Edge) (r : ℕ) → newestBelow p es r ≡ 0 → inboundBelow p es r ≡ []
+unfolding newestBelow inboundBelow
+none-inbound zero es r q = refl
+none-inbound (suc p) es r q =
+    (by-test (λ b. cond b (suc p) (newestBelow p es r) ≡ 0 → cond b (p ∷ inboundBelow p es r) (inboundBelow p es r) ≡ []) (eqb (edgeAt es p .to) r)
+    (λ t u. absurd (omega arith))
+    (λ t u. none-inbound p es r u)) q

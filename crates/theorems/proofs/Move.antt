@@ -136,17 +136,17 @@ node-later items n d h =
       edges-are = λ k q. refl;
     }
 
-setFast-rise : (b : ℕ) (n : Node) → Rise n (withFast b n)
+withFast-rise : (b : ℕ) (n : Node) → Rise n (withFast b n)
 unfolding withFast
-setFast-rise b n = record { capacity-is = refl; depth-is = refl; deleted-is = refl; cutset-is = refl; value-up = omega arith }
+withFast-rise b n = record { capacity-is = refl; depth-is = refl; deleted-is = refl; cutset-is = refl; value-up = omega arith }
 
-setFast-core : (b : ℕ) (n : Node) → core (withFast b n) ≡ core n
+withFast-core : (b : ℕ) (n : Node) → core (withFast b n) ≡ core n
 unfolding withFast core
-setFast-core b n = refl
+withFast-core b n = refl
 
-setFast-noted : (items : List Item) (n : Node) → Noted items (withFast (mid + fastBound (drop (n .depth) items) (n .capacity)) n)
+withFast-noted : (items : List Item) (n : Node) → Noted items (withFast (mid + fastBound (drop (n .depth) items) (n .capacity)) n)
 unfolding withFast
-setFast-noted items n = refl
+withFast-noted items n = refl
 
 pub note-later : (items : List Item) (s : ℕ) (d : Diagram) → s < length (d .nodes) → Later items d (noteFast (drop (nodeAt (d .nodes) s .depth) items) s d)
 unfolding noteFast withNodes
@@ -155,9 +155,9 @@ note-later items s d h =
       begins = refl;
       layers-are = refl;
       last-is = refl;
-      old = λ r k. update-at (λ n. core n ≡ core (nodeAt (d .nodes) r)) (withFast _) (d .nodes) s r h (λ e. rw e (setFast-core _ _)) (λ e. refl);
-      noted = λ r k m. update-at (λ n. Noted items n) (withFast _) (d .nodes) s r h (λ e. setFast-noted items (nodeAt (d .nodes) s)) (λ e. m);
-      rises = λ r k. update-at (λ n. Rise (nodeAt (d .nodes) r) n) (withFast _) (d .nodes) s r h (λ e. rw e (setFast-rise _ _)) (λ e. rise-refl _);
+      old = λ r k. update-at (λ n. core n ≡ core (nodeAt (d .nodes) r)) (withFast _) (d .nodes) s r h (λ e. rw e (withFast-core _ _)) (λ e. refl);
+      noted = λ r k m. update-at (λ n. Noted items n) (withFast _) (d .nodes) s r h (λ e. withFast-noted items (nodeAt (d .nodes) s)) (λ e. m);
+      rises = λ r k. update-at (λ n. Rise (nodeAt (d .nodes) r) n) (withFast _) (d .nodes) s r h (λ e. rw e (withFast-rise _ _)) (λ e. rise-refl _);
       longer = rw length-set (omega arith);
       more = omega arith;
       edges-are = λ k q. refl;
@@ -165,7 +165,7 @@ note-later items s d h =
 
 pub note-noted : (items : List Item) (s : ℕ) (d : Diagram) → s < length (d .nodes) → Noted items (nodeAt ((noteFast (drop (nodeAt (d .nodes) s .depth) items) s d) .nodes) s)
 unfolding noteFast withNodes
-note-noted items s d h = rw (getD-set-same (d .nodes) s _ noNode h) (setFast-noted items (nodeAt (d .nodes) s))
+note-noted items s d h = rw (getD-set-same (d .nodes) s _ noNode h) (withFast-noted items (nodeAt (d .nodes) s))
 
 pub child-later : (items : List Item) (s decision c capacity : ℕ) (d : Diagram) → d .start ≤ length (d .nodes) → Later items d (pushEdge s (length (d .nodes)) decision c (pushNode (childOf s c capacity (d .nodes)) d))
 unfolding pushNode withNodes

@@ -8,7 +8,7 @@ use lib.Dec.{eqb, ltb}
 use lib.ListN.{length, getD, length-append, drop, length-drop}
 use borrow.Author.Tests.{eqb-true, ltb-true, ltb-false, eqb-false, eq-eqb, ne-eqb}
 use Rattle.words.specs.I64.{mid, top}
-use Rattle.knapsack.specs.Items.{Item, counted, takes, skips, itemOf, isTake}
+use Rattle.knapsack.specs.Items.{Item, noItem, counted, takes, skips, itemOf, isTake}
 use Rattle.knapsack.proofs.Cases.{by-test}
 use Rattle.knapsack.proofs.Items.{itemOf-takes, itemOf-skips, isTake-takes, isTake-skips}
 use Rattle.diagram.specs.After3.{decisionsUp}
@@ -20,9 +20,6 @@ use Rattle.theorems.proofs.Tower.{rootRow}
 use Rattle.theorems.proofs.Sound.{Kin, Sound}
 
 -- what the taken decisions of a path add up to, and how often it names item k
-abbrev pub noItem : Item
-noItem = record { weight = 0; profit = 0 }
-
 unfoldable pub share : (Item → ℕ) → List Item → ℕ → ℕ
 share f items b = cond (isTake b) (f (getD items (itemOf b) noItem)) 0
 
@@ -162,10 +159,6 @@ below-cons (suc n) b p = omega (arith, below-cons n b p)
 named-le : (k b : ℕ) → namesIt k b ≤ 1
 unfolding namesIt
 named-le k b = by-test (λ t. cond t 1 0 ≤ 1) (eqb (itemOf b) k) (λ _. omega arith) (λ _. omega arith)
-
-named-one : (k b : ℕ) → 0 < namesIt k b → itemOf b ≡ k
-unfolding namesIt
-named-one k b h = (by-test (λ t. 0 < cond t 1 0 → itemOf b ≡ k) (eqb (itemOf b) k) (λ t _. eqb-true _ _ t) (λ t z. absurd (omega arith))) h
 
 -- a byte that names a larger item names none below
 byte-out : (n b : ℕ) → n ≤ itemOf b → namedBelow n (b ∷ []) ≡ 0

@@ -30,10 +30,6 @@ data Agrees : Run → Run → Type 0 where
   both : {d : Diagram} → Agrees (going d) (going d)
   refusal : {n : ℕ} {d : Diagram} {x : Run} → Agrees (stopped n d) x
 
-agrees-going : {x y : Run} (d : Diagram) → Agrees x y → x ≡ going d → y ≡ going d
-agrees-going d both e = e
-agrees-going d refusal e = let z : _≡_ {A = ℕ} 0 1 = cc in absurd (omega arith)
-
 then-agrees : {x y : Run} (f g : Diagram → Run) → Agrees x y → ((d : Diagram) → Agrees (f d) (g d)) → Agrees (andThen x f) (andThen y g)
 then-agrees f g (both {d = d}) k = k d
 then-agrees f g refusal k = refusal
@@ -141,10 +137,6 @@ module _ (opts : Settings) (a b : ℕ) (more-nodes : opts .nodeRoom ≤ a) (more
   grown-agrees : (items : List Item) (r : Record) → Agrees (grown opts items r) (grown (withRooms opts a b) items r)
   unfolding grown rooted withRooms
   grown-agrees items r = then-agrees _ _ (need-agrees _ _ 11 blank (below-room _ _ _ more-nodes) both) (λ d. grow-agrees (drop (r .depth) items) (r .depth) d)
-
-  -- A run that finished with some rooms finishes alike with any that are no smaller.
-  pub more-room : (items : List Item) (r : Record) (d : Diagram) → grown opts items r ≡ going d → grown (withRooms opts a b) items r ≡ going d
-  more-room items r d e = agrees-going d (grown-agrees items r) e
 
   pub run-more-room : (kind : CutsetKind) (items : List Item) (r : Record) (o : Outcome) → run opts kind items r ≡ finished o → run (withRooms opts a b) kind items r ≡ finished o
   unfolding run withRooms

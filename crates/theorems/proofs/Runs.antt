@@ -7,7 +7,7 @@ use native.Mathlib.Omega.{arith}
 use lib.ListN.{length, getD, drop, length-drop}
 use Rattle.words.specs.I64.{top}
 use Rattle.knapsack.specs.Best.{best}
-use Rattle.knapsack.specs.Items.{Item}
+use Rattle.knapsack.specs.Items.{Item, noItem}
 use Rattle.diagram.specs.After1.{bestNode, bestExactNode}
 use Rattle.diagram.specs.After2.{isExact}
 use Rattle.diagram.specs.After3.{decisionsUp, pathTo}
@@ -30,7 +30,7 @@ use Rattle.theorems.proofs.Local.{plain, Dressed, bounds-dressed}
 use Rattle.theorems.proofs.Terminals.{Tops, best-terminal}
 use Rattle.theorems.proofs.Cutset.{Listing}
 use Rattle.theorems.proofs.Drain.{cut-listing, plain-val, top-is}
-use Rattle.theorems.proofs.Path.{noItem, Valid, upFrom, sum-small, up-valid, valid-small}
+use Rattle.theorems.proofs.Path.{Valid, upFrom, sum-small, up-valid, valid-small}
 use Rattle.theorems.proofs.Drained.{path-same, plain-best, root-is, empty-listing}
 use Rattle.theorems.proofs.Walk.{Achieved, best-achieved, all-achieved}
 use Rattle.theorems.proofs.Whole.{Whole, up-most}

@@ -1,7 +1,7 @@
--- The insertion sort is a permutation and is in order.
+-- The insertion sort is a permutation, so the coming layer as ordered has each of its rows once.
 use mathlib.Core.Path.{_≡_, refl, sym, ap, _∙_}
-use mathlib.Core.Bool.{Bool, true, false, cond}
-use mathlib.Core.List.{List, [], _∷_, _++_, List·Memᴰ, List·Memᴰ·head, List·Memᴰ·tail, List·Memᴰ·not-nil, List·Memᴰ·cases-cons, Memᴰ·append-right, List·Permᴰ, List·Permᴰ·nil, List·Permᴰ·cons, List·Permᴰ·swap, List·Permᴰ·trans, Permᴰ·symm, Permᴰ·refl}
+use mathlib.Core.Bool.{Bool, cond}
+use mathlib.Core.List.{List, [], _∷_, _++_, List·Memᴰ, List·Memᴰ·head, List·Memᴰ·tail, List·Memᴰ·cases-cons, Memᴰ·append-right, List·Permᴰ, List·Permᴰ·nil, List·Permᴰ·cons, List·Permᴰ·swap, List·Permᴰ·trans, Permᴰ·symm, Permᴰ·refl}
 use mathlib.Core.Logic.{⊎-elim}
 use Prim.Native.Nat.{ℕ, zero, suc, _-_, _≤_, _<_}
 use native.Mathlib.Omega.{arith}
@@ -11,11 +11,6 @@ use Rattle.diagram.specs.Rule2.{byCapacity, ordered}
 use Rattle.diagram.specs.Rule6.{insertBy, sortBy}
 use Rattle.diagram.specs.Tables.{Diagram, rowsFrom, rowsOf, coming}
 use Rattle.theorems.proofs.Rows.{rows-below, range-mem, range-in}
-
--- each is before all that follow
-pub data Sorted (b : ℕ → ℕ → Bool) : List ℕ → Type 0 where
-  sorted-none : Sorted b []
-  sorted-more : {x : ℕ} {xs : List ℕ} → ((y : ℕ) → List·Memᴰ y xs → b x y ≡ true) → Sorted b xs → Sorted b (x ∷ xs)
 
 pub insert-perm : (b : ℕ → ℕ → Bool) (x : ℕ) (xs : List ℕ) → List·Permᴰ (insertBy b x xs) (x ∷ xs)
 unfolding insertBy
@@ -39,29 +34,6 @@ perm-mem (List·Permᴰ·swap e f) (List·Memᴰ·head h) = List·Memᴰ·tail (
 perm-mem (List·Permᴰ·swap e f) (List·Memᴰ·tail (List·Memᴰ·head h)) = List·Memᴰ·head (h ∙ f)
 perm-mem (List·Permᴰ·swap e f) (List·Memᴰ·tail (List·Memᴰ·tail k)) = List·Memᴰ·tail (List·Memᴰ·tail k)
 perm-mem (List·Permᴰ·trans d₁ d₂) k = perm-mem d₂ (perm-mem d₁ k)
-
--- in order, for a total and transitive test
-module _ (b : ℕ → ℕ → Bool) (total : (x y : ℕ) → b x y ≡ false → b y x ≡ true) (trans : (x y z : ℕ) → b x y ≡ true → b y z ≡ true → b x z ≡ true) where
-  first : (x y : ℕ) (ys : List ℕ) → b x y ≡ true → ((z : ℕ) → List·Memᴰ z ys → b y z ≡ true) → (z : ℕ) → List·Memᴰ z (y ∷ ys) → b x z ≡ true
-  first x y ys h k z (List·Memᴰ·head e) = rw e h
-  first x y ys h k z (List·Memᴰ·tail m) = trans x y z h (k z m)
-
-  after : (x y : ℕ) (ys : List ℕ) → b y x ≡ true → ((z : ℕ) → List·Memᴰ z ys → b y z ≡ true) → (z : ℕ) → List·Memᴰ z (x ∷ ys) → b y z ≡ true
-  after x y ys h k z (List·Memᴰ·head e) = rw e h
-  after x y ys h k z (List·Memᴰ·tail m) = k z m
-
-  insert-sorted : (x : ℕ) (xs : List ℕ) → Sorted b xs → Sorted b (insertBy b x xs)
-  unfolding insertBy
-  insert-sorted x [] s = sorted-more (λ y m. absurd (List·Memᴰ·not-nil m)) sorted-none
-  insert-sorted x (y ∷ ys) (sorted-more k s) =
-      by-test (λ t. Sorted b (cond t (x ∷ y ∷ ys) (y ∷ insertBy b x ys))) (b x y)
-      (λ e. sorted-more (first x y ys e k) (sorted-more k s))
-      (λ e. sorted-more (λ z m. after x y ys (total x y e) k z (perm-mem (insert-perm b x ys) m)) (insert-sorted x ys s))
-
-  pub sort-sorted : (xs : List ℕ) → Sorted b (sortBy b xs)
-  unfolding sortBy
-  sort-sorted [] = sorted-none
-  sort-sorted (x ∷ xs) = insert-sorted x (sortBy b xs) (sort-sorted xs)
 
 -- the rows of a list that differ
 pub data Apart : List ℕ → Type 0 where

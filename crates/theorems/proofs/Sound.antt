@@ -10,7 +10,7 @@ use lib.Dec.{leb}
 use lib.ListN.{length, length-append, length-set}
 use lib.Seq.{getD-set-same, getD-set-other, getD-append-seam}
 use borrow.Author.Tests.{leb-false}
-use Rattle.words.specs.I64.{top, satAdd}
+use Rattle.words.specs.I64.{top}
 use Rattle.knapsack.specs.Items.{Item}
 use Rattle.knapsack.proofs.Cases.{by-test}
 use Rattle.diagram.specs.Node.{Node, Edge, noNode, noEdge, nodeAt, edgeAt, update, fresh, entered, withFast, withDeleted}
@@ -27,8 +27,8 @@ use Rattle.theorems.proofs.Bool.{and-both, false-and}
 use Rattle.theorems.proofs.Holds.{Holds, holds-map}
 use Rattle.theorems.proofs.Rows.{update-at}
 use Rattle.theorems.proofs.Move.{Choice, by-skip, by-take, Move, note, edge, child, core, Later, push-later, node-later, note-later}
-use Rattle.theorems.proofs.Arc.{Coming, val-handed}
-use Rattle.theorems.proofs.Merge.{MergeMove, flag, copy, merging-keeps, bare, Merged, merge-move-merged}
+use Rattle.theorems.proofs.Arc.{Coming, handed-is, val-handed}
+use Rattle.theorems.proofs.Merge.{MergeMove, flag, copy, merging-keeps, Merged, merge-move-merged}
 use Rattle.theorems.proofs.Squash.{merged-fields, Merging, Way}
 use Rattle.theorems.proofs.Growth.{Ready, Step, step-keeps, squash-keeps, Ended, through, died, grown-keeps}
 use Rattle.theorems.proofs.Tower.{root, more, rootRow}
@@ -47,10 +47,6 @@ pub record Kin (a b : Node) : Type 0 where
 pub kin-core : (a b : Node) → core b ≡ core a → Kin a b
 unfolding core
 kin-core a b e = record { capacity-is = ap (λ (n : Node). n .capacity) e; depth-is = ap (λ (n : Node). n .depth) e; value-is = ap (λ (n : Node). n .value) e; best-is = ap (λ (n : Node). n .best) e; exact-is = ap (λ (n : Node). n .exact) e; cutset-is = ap (λ (n : Node). n .cutset) e; relaxed-is = ap (λ (n : Node). n .relaxed) e }
-
-pub kin-bare : (a b : Node) → bare b ≡ bare a → Kin a b
-unfolding bare
-kin-bare a b e = record { capacity-is = ap (λ (n : Node). n .capacity) e; depth-is = ap (λ (n : Node). n .depth) e; value-is = ap (λ (n : Node). n .value) e; best-is = ap (λ (n : Node). n .best) e; exact-is = ap (λ (n : Node). n .exact) e; cutset-is = ap (λ (n : Node). n .cutset) e; relaxed-is = ap (λ (n : Node). n .relaxed) e }
 
 pub kin-refl : (a : Node) → Kin a a
 kin-refl a = record { capacity-is = refl; depth-is = refl; value-is = refl; best-is = refl; exact-is = refl; cutset-is = refl; relaxed-is = refl }
@@ -180,10 +176,6 @@ landed-best s c d n =
     by-test (λ b. ((cond b (suc (length (d .edges))) (n .best) ≡ suc (length (d .edges))) × (cond b (handed (d .nodes) s c) (n .value) ≡ handed (d .nodes) s c)) ⊎ ((cond b (suc (length (d .edges))) (n .best) ≡ n .best) × (cond b (handed (d .nodes) s c) (n .value) ≡ n .value) × (handed (d .nodes) s c < n .value))) (leb (n .value) (handed (d .nodes) s c))
     (λ e. inl (refl, refl)) (λ e. inr (refl, refl, leb-false _ _ e))
 
-handed-min : (s c : ℕ) (d : Diagram) → handed (d .nodes) s c ≡ min top (nodeAt (d .nodes) s .value + c)
-unfolding handed satAdd
-handed-min s c d = omega arith
-
 -- row t with its new edge as the best
 new-via : (items : List Item) (s t decision c : ℕ) (d : Diagram) → s < d .start → d .start ≤ t → t < length (d .nodes) → nodeAt (d .nodes) t .depth ≡ suc (nodeAt (d .nodes) s .depth) → Choice items (nodeAt (d .nodes) s) decision c (nodeAt (d .nodes) t .capacity) → (landed (d .nodes) (d .edges) s c (nodeAt (d .nodes) t) .best ≡ suc (length (d .edges))) × (landed (d .nodes) (d .edges) s c (nodeAt (d .nodes) t) .value ≡ handed (d .nodes) s c) → Via items (pushEdge s t decision c d) t
 unfolding pushEdge
@@ -203,7 +195,7 @@ new-via items s t decision c d hs l h dq ch b =
       up = λ x. rw (q, o) (and-both (nodeAt (d .nodes) s .exact) (nodeAt (d .nodes) t .exact) (sym (f .0) ∙ (rw m at x)) .0);
       depth = rw (q, m, o) (f .2 ∙ dq);
       choice = rw (q, m, o, f .3) ch;
-      value = rw (q, m, o) (b .1 ∙ handed-min s c d);
+      value = rw (q, m, o) (b .1 ∙ handed-is s c d);
     }
 
 pub push-kin : (s t decision c : ℕ) (d : Diagram) (r : ℕ) → r ≢ t → Kin (nodeAt (d .nodes) r) (nodeAt ((pushEdge s t decision c d) .nodes) r)

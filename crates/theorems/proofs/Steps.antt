@@ -9,20 +9,15 @@ use lib.ListN.{length, getD, drop}
 use lib.Seq.{drop-cons}
 use Rattle.words.specs.I64.{top, satAdd}
 use Rattle.knapsack.specs.Best.{best}
-use Rattle.knapsack.specs.Items.{Item}
+use Rattle.knapsack.specs.Items.{Item, noItem}
 use Rattle.knapsack.proofs.Best.{best-no-items, best-skips-or-takes, best-grows}
 use Rattle.knapsack.proofs.FastBound.{fastBound-at-least-best}
 use Rattle.diagram.specs.Node.{Node, nodeAt, edgeAt, fresh}
 use Rattle.diagram.specs.Record.{Record}
-use Rattle.diagram.specs.Rule2.{grown}
-use Rattle.diagram.specs.Rule4.{handed}
-use Rattle.diagram.specs.Run.{Settings}
 use Rattle.diagram.specs.Tables.{Range, Diagram, coming}
-use Rattle.theorems.proofs.Holds.{Holds, holds-map}
 use Rattle.theorems.proofs.Move.{core}
-use Rattle.theorems.proofs.Arc.{Arc, core-del, outlook, Stepped}
-use Rattle.theorems.proofs.Squash.{Full}
-use Rattle.theorems.proofs.Tower.{Tower, root, more, Finished, rootRow, grown-finished}
+use Rattle.theorems.proofs.Arc.{Arc, core-del, handed-is, outlook, Stepped}
+use Rattle.theorems.proofs.Tower.{Tower, root, more, Finished, rootRow}
 
 -- the best completion of a row, with the items from its own depth on
 unfoldable pub completion : List Item → Node → ℕ
@@ -42,10 +37,6 @@ pub record Next (items : List Item) (d : Diagram) (s lo hi y : ℕ) : Type 0 whe
   pub live : nodeAt (d .nodes) (edgeAt (d .edges) via .to) .deleted ≡ false
   pub gains : y ≤ edgeAt (d .edges) via .cost + completion items (nodeAt (d .nodes) (edgeAt (d .edges) via .to))
   pub hands : min top (nodeAt (d .nodes) s .value + edgeAt (d .edges) via .cost) ≤ nodeAt (d .nodes) (edgeAt (d .edges) via .to) .value
-
-handed-is : (s c : ℕ) (d : Diagram) → handed (d .nodes) s c ≡ min top (nodeAt (d .nodes) s .value + c)
-unfolding handed satAdd
-handed-is s c d = omega arith
 
 arc-next : (items : List Item) (d : Diagram) (s c capacity k lo hi y : ℕ) → y ≤ c + best (drop k items) capacity → Arc d s c capacity k lo hi → Next items d s lo hi y
 unfolding completion
@@ -77,9 +68,9 @@ more-is items n l e = ap (λ (q : List Item). best q (n .capacity)) e
 pub step-lemma : (items : List Item) (lower : ℕ) (d : Diagram) (s lo hi y : ℕ) → lower < top → lower < nodeAt (d .nodes) s .value + y → y ≤ completion items (nodeAt (d .nodes) s) → Stepped items lower d s lo hi → Next items d s lo hi y
 step-lemma items lower d s lo hi y ht hb hy a =
     let n = nodeAt (d .nodes) s in
-    let i = getD items (n .depth) (record { weight = 0; profit = 0 }) in
+    let i = getD items (n .depth) noItem in
     let is = drop (suc (n .depth)) items in
-    let e : drop (n .depth) items ≡ i ∷ is = drop-cons items (n .depth) (record { weight = 0; profit = 0 }) (a .deep) in
+    let e : drop (n .depth) items ≡ i ∷ is = drop-cons items (n .depth) noItem (a .deep) in
     let v : lower < outlook items n = seen-over items n lower y ht hb hy in
     let m : completion items n ≡ best (i ∷ is) (n .capacity) = more-is items n _ e in
     ⊎-elim
@@ -141,8 +132,3 @@ root-worth items r = refl
 pub root-lives : (r : Record) → rootRow r .deleted ≡ false
 unfolding rootRow fresh
 root-lives r = refl
-
--- A run that is relaxed or exact, and not refused, has a terminal of value x at least, for each x above the lower bound that the record is worth.
-pub run-ends : (items : List Item) (opts : Settings) (r : Record) (x : ℕ) → Full (opts .mode) → opts .lower < x → x ≤ top → x ≤ worthOf items r → Holds (Ends x) (grown opts items r)
-run-ends items opts r x fm hb ht hx =
-    holds-map (λ d f. finished-ends items (opts .lower) (rootRow r) d x f (root-lives r) hb ht (omega (arith, root-worth items r))) (grown-finished items opts r fm)

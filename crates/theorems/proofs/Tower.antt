@@ -12,14 +12,13 @@ use Rattle.knapsack.specs.Items.{Item}
 use Rattle.diagram.specs.Node.{Node, Edge, nodeAt, edgeAt, fresh}
 use Rattle.diagram.specs.Record.{Record}
 use Rattle.diagram.specs.Rule1.{rootOnly}
-use Rattle.diagram.specs.Rule2.{store, storeEmpty, storeLast, hasRows, grown}
-use Rattle.diagram.specs.Run.{Mode, Settings}
+use Rattle.diagram.specs.Rule2.{store, storeEmpty, storeLast}
+use Rattle.diagram.specs.Run.{Mode}
 use Rattle.diagram.specs.Tables.{Range, Diagram, coming}
-use Rattle.theorems.proofs.Holds.{Holds, holds-map}
 use Rattle.theorems.proofs.Move.{core, Noted, Later, trail-later}
 use Rattle.theorems.proofs.Arc.{Coming, Arc, core-val, core-cap, core-dep, core-del, val-handed, outlook, Stepped, core-outlook, Layered}
 use Rattle.theorems.proofs.Squash.{Full, Settled, Way, untouched, merges, deletes}
-use Rattle.theorems.proofs.Growth.{Ready, Step, store-is, Ended, through, died, grown-keeps}
+use Rattle.theorems.proofs.Growth.{Ready, Step, store-is}
 
 -- from one table to a later one: the rows below n, and the edges, stay
 pub record Frozen (items : List Item) (n : ℕ) (d e : Diagram) : Type 0 where
@@ -64,10 +63,6 @@ stepped-frozen items lower n d e s lo hi g h b a =
 pub data Tower (items : List Item) (lower : ℕ) (d : Diagram) : List Range → Type 0 where
   root : {L : Range} → L .lo ≡ 0 → 0 < L .hi → Tower items lower d (L ∷ [])
   more : {U L : Range} {ls : List Range} → L .hi ≤ U .lo → U .lo ≤ U .hi → ((x : ℕ) → L .lo ≤ x → x < L .hi → nodeAt (d .nodes) x .deleted ≡ false → Stepped items lower d x (U .lo) (U .hi)) → Tower items lower d (L ∷ ls) → Tower items lower d (U ∷ L ∷ ls)
-
-pub tower-up : {items : List Item} {lower : ℕ} {d : Diagram} {L : Range} {ls : List Range} → Tower items lower d (L ∷ ls) → L .lo ≤ L .hi
-tower-up (root a b) = omega arith
-tower-up (more a b s t) = b
 
 pub tower-late : {items : List Item} {lower : ℕ} {d : Diagram} {L : Range} {ls : List Range} → Tower items lower d (L ∷ ls) → 0 < L .hi
 tower-late (root a b) = b
@@ -207,11 +202,6 @@ empty-finished items lower r₀ k d h g w =
       top = w .top;
     }
 
-pub ended-finished : (items : List Item) (lower : ℕ) (r₀ : Node) (P : ℕ → Diagram → Type 0) → ((k : ℕ) (d : Diagram) → P k d → Built items lower r₀ k d) → (e : Diagram) → Ended items P e → Finished items lower r₀ e
-unfolding hasRows
-ended-finished items lower r₀ P f e (through k d z g p) = last-finished (hasRows d) items lower r₀ k d refl z g (f k d p)
-ended-finished items lower r₀ P f e (died k d z g p) = empty-finished items lower r₀ k d z g (f k d p)
-
 -- the root's row
 unfoldable pub rootRow : Record → Node
 rootRow r = fresh (r .capacity) (r .depth) (r .value) true
@@ -220,9 +210,3 @@ pub root-built : (items : List Item) (lower : ℕ) (r : Record) → Built items 
 unfolding rootOnly rootRow fresh coming
 root-built items lower r =
     record { tower = root {L = record { lo = 0; hi = 1 }} refl (omega arith); top = refl; level = omega arith }
-
--- a run that is relaxed or exact and not refused leaves finished tables
-pub grown-finished : (items : List Item) (opts : Settings) (r : Record) → Full (opts .mode) → Holds (Finished items (opts .lower) (rootRow r)) (grown opts items r)
-grown-finished items opts r fm =
-    holds-map (λ e z. ended-finished items (opts .lower) (rootRow r) _ (λ k d w. w) e z)
-    (grown-keeps items opts (Built items (opts .lower) (rootRow r)) (λ k d f g t w. step-built items (opts .lower) (rootRow r) (opts .mode) fm k d f g t w) r (root-built items (opts .lower) r))

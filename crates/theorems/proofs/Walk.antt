@@ -1,17 +1,17 @@
 -- The best exact node's path is an achieved one, in every mode: from an exact terminal, or from a best node that the walk up accepts.
 use mathlib.Core.Path.{_≡_, refl, sym, ap, subst, _∙_}
-use mathlib.Core.Bool.{Bool, true, false, cond, _&&_, not, _||_}
+use mathlib.Core.Bool.{true, false, cond}
 use mathlib.Core.List.{List, _∷_}
-use Prim.Native.Nat.{ℕ, zero, suc, _+_, _≤_, _<_}
+use Prim.Native.Nat.{ℕ, zero, suc, _≤_, _<_}
 use native.Mathlib.Omega.{arith}
 use lib.ListN.{length}
 use Rattle.words.specs.I64.{top}
 use Rattle.knapsack.specs.Items.{Item}
 use Rattle.knapsack.proofs.Cases.{by-test}
 use Rattle.diagram.specs.After1.{terminals, bestOf, bestNode, parentBy, walkUp, exactPath, bestExactNode}
-use Rattle.diagram.specs.Node.{Node, Edge, nodeAt, edgeAt}
+use Rattle.diagram.specs.Node.{Node, nodeAt, edgeAt}
 use Rattle.diagram.specs.Run.{Mode, exactly, restricted, relaxing}
-use Rattle.diagram.specs.Tables.{Diagram, Found, at, nowhere}
+use Rattle.diagram.specs.Tables.{Diagram, Found, at}
 use Rattle.theorems.proofs.Links.{Wired, best-parent-smaller}
 use Rattle.theorems.proofs.Sound.{Sound}
 use Rattle.theorems.proofs.Exactness.{AllExact}
@@ -114,23 +114,3 @@ pub path-enough : (d : Diagram) → Wired d → (f g y : ℕ) → y ≤ f → y 
 path-enough d w zero g y lf lg h = let z = no-best d w y (omega arith) h in path-root zero d y z ∙ sym (path-root g d y z)
 path-enough d w (suc f) zero y lf lg h = let z = no-best d w y (omega arith) h in path-root (suc f) d y z ∙ sym (path-root zero d y z)
 path-enough d w (suc f) (suc g) y lf lg h = path-step d w f g y h (λ q l. path-enough d w f g q (omega arith) (omega arith) (omega arith))
-
-walk-nowhere : (f : ℕ) (ns : List Node) (es : List Edge) → 0 < f → walkUp f ns es nowhere ≡ true
-unfolding walkUp
-walk-nowhere zero ns es h = absurd (omega arith)
-walk-nowhere (suc f) ns es h = refl
-
-walk-step : (d : Diagram) → Wired d → (f g y : ℕ) → 0 < f → 0 < g → y < length (d .nodes) → ((q : ℕ) → q < y → walkUp f (d .nodes) (d .edges) (at q) ≡ walkUp g (d .nodes) (d .edges) (at q)) → walkUp (suc f) (d .nodes) (d .edges) (at y) ≡ walkUp (suc g) (d .nodes) (d .edges) (at y)
-unfolding walkUp parentBy
-walk-step d w f g y hf hg h ih =
-    ap (λ (b : Bool). nodeAt (d .nodes) y .exact || (not (nodeAt (d .nodes) y .relaxed) && b)) (by-best (nodeAt (d .nodes) y .best) refl)
-  where
-    by-best : (b : ℕ) → nodeAt (d .nodes) y .best ≡ b → walkUp f (d .nodes) (d .edges) (parentBy (d .edges) b) ≡ walkUp g (d .nodes) (d .edges) (parentBy (d .edges) b)
-    by-best zero e = walk-nowhere f (d .nodes) (d .edges) hf ∙ sym (walk-nowhere g (d .nodes) (d .edges) hg)
-    by-best (suc b) e = ih (edgeAt (d .edges) b .from) (best-parent-smaller d w y b h e .1)
-
--- The walk up from row y: y steps and two more are enough.
-pub walk-enough : (d : Diagram) → Wired d → (f g y : ℕ) → y + 2 ≤ f → y + 2 ≤ g → y < length (d .nodes) → walkUp f (d .nodes) (d .edges) (at y) ≡ walkUp g (d .nodes) (d .edges) (at y)
-walk-enough d w zero g y lf lg h = absurd (omega arith)
-walk-enough d w (suc f) zero y lf lg h = absurd (omega arith)
-walk-enough d w (suc f) (suc g) y lf lg h = walk-step d w f g y (omega arith) (omega arith) h (λ q l. walk-enough d w f g q (omega arith) (omega arith) (omega arith))

@@ -1,4 +1,4 @@
--- A whole valid path is a selection that fits the page: its value is at most the optimum.
+-- The selection that a path is: no terminal whose path is achieved is worth more than the record.
 use mathlib.Core.Path.{_≡_, refl, sym, ap}
 use mathlib.Core.Bool.{Bool, false, cond}
 use mathlib.Core.List.{List, [], _∷_}
@@ -7,15 +7,14 @@ use native.Mathlib.Omega.{arith}
 use lib.Dec.{eqb, ltb}
 use lib.ListN.{length, getD, drop, length-drop}
 use borrow.Author.Tests.{eqb-true, ltb-true, ltb-false, eqb-false, eq-eqb, ne-eqb}
-use Rattle.words.specs.I64.{mid}
 use Rattle.knapsack.specs.Best.{best}
-use Rattle.knapsack.specs.Items.{Item, counted, itemOf, isTake}
-use Rattle.knapsack.specs.Knapsack.{weightOf, profitOf, Earned}
+use Rattle.knapsack.specs.Items.{Item, noItem, counted, itemOf, isTake}
+use Rattle.knapsack.specs.Knapsack.{weightOf, profitOf}
 use Rattle.knapsack.proofs.Best.{best-is-most}
 use Rattle.knapsack.proofs.Cases.{by-test}
 use Rattle.diagram.specs.Node.{Node}
 use Rattle.theorems.proofs.Growth.{drop-next}
-use Rattle.theorems.proofs.Path.{noItem, share, sumTaken, timesNamed, Valid, drop-head, named-is, PathUp, names-none}
+use Rattle.theorems.proofs.Path.{share, sumTaken, timesNamed, Valid, drop-head, named-is, PathUp}
 
 -- the first byte that names item k says whether it is taken
 unfoldable pub takesItem : ℕ → List ℕ → Bool
@@ -27,10 +26,10 @@ chosen k [] p = []
 chosen k (i ∷ is) p = takesItem k p ∷ chosen (suc k) is p
 
 -- what the bytes that name item k add
-unfoldable hit : (Item → ℕ) → List Item → ℕ → ℕ → ℕ
+unfoldable pub hit : (Item → ℕ) → List Item → ℕ → ℕ → ℕ
 hit f items k b = cond (eqb (itemOf b) k) (share f items b) 0
 
-unfoldable col : (Item → ℕ) → List Item → ℕ → List ℕ → ℕ
+unfoldable pub col : (Item → ℕ) → List Item → ℕ → List ℕ → ℕ
 col f items k [] = 0
 col f items k (b ∷ p) = hit f items k b + col f items k p
 
@@ -54,7 +53,7 @@ takes-out : (k b : ℕ) (p : List ℕ) → (itemOf b ≡ k → ⊥) → takesIte
 unfolding takesItem
 takes-out k b p e = rw (ne-eqb (itemOf b) k e)
 
-col-none : (f : Item → ℕ) (items : List Item) (k : ℕ) (p : List ℕ) → timesNamed k p ≡ 0 → col f items k p ≡ 0
+pub col-none : (f : Item → ℕ) (items : List Item) (k : ℕ) (p : List ℕ) → timesNamed k p ≡ 0 → col f items k p ≡ 0
 unfolding col timesNamed
 col-none f items k [] h = refl
 col-none f items k (b ∷ p) h =
@@ -104,14 +103,6 @@ hits-in f items k (i ∷ is) b l h =
     (λ t. let e = eqb-true (itemOf b) k t in omega (arith, hit-share f items k b e, hits-out f items (suc k) is b (omega arith)))
     (λ t. let e = eqb-false (itemOf b) k t in omega (arith, hit-out f items k b e, hits-in f items (suc k) is b (omega (arith, e)) (omega arith)))
 
-sum-cols : (f : Item → ℕ) (items : List Item) (p : List ℕ) → ((k : ℕ) → length items ≤ k → timesNamed k p ≡ 0) → sumTaken f items p ≡ cols f items 0 items p
-unfolding sumTaken timesNamed
-sum-cols f items [] h = sym (cols-nil f items 0 items)
-sum-cols f items (b ∷ p) h =
-    let lt : itemOf b < length items = by-test (λ _. itemOf b < length items) (ltb (itemOf b) (length items)) (λ t. ltb-true _ _ t)
-    (λ t. absurd (omega (arith, h (itemOf b) (ltb-false (itemOf b) (length items) t), named-is (itemOf b) b (itemOf b) refl .0 refl))) in
-    omega (arith, cols-cons f items 0 items b p, hits-in f items 0 items b (omega arith) (omega arith), sum-cols f items p (λ k l. omega (arith, h k l)))
-
 -- the selection of a path
 module _ (items : List Item) (p : List ℕ) where
   weight-cols : (k : ℕ) (is : List Item) → drop k items ≡ is → ((opts : ℕ) → k ≤ opts → opts < k + length is → timesNamed opts p ≡ 1) → weightOf is (chosen k is p) ≡ cols (λ i. counted (i .weight)) items k is p
@@ -146,26 +137,7 @@ pub record Whole (items : List Item) (page v : ℕ) (p : List ℕ) : Type 0 wher
   pub left-over : ℕ
   pub valid : Valid items page (record { capacity = left-over; value = v; bound = 0; depth = length items; path = p })
 
--- A whole valid path is a selection that fits the page and earns its value.
-pub whole-earned : (items : List Item) (page v : ℕ) (p : List ℕ) → Whole items page v p → (x : ℕ) × Earned items page x × (v ≡ mid + x)
-whole-earned items page v p h =
-    let r = h .valid in
-    let none : (k : ℕ) → length items ≤ k → timesNamed k p ≡ 0 = λ k l. names-none items page _ r k l in
-    let once : (j : ℕ) → 0 ≤ j → j < 0 + length items → timesNamed j p ≡ 1 = λ j a b. r .once j (omega arith) in
-    let w = weight-cols items p 0 items refl once in
-    let q = profit-cols items p 0 items refl once in (
-      profitOf items (chosen 0 items p),
-      record { selection = chosen 0 items p; fits = record { each-item = chosen-length 0 items p; in-capacity = omega (arith, r .weights, sum-cols (λ i. counted (i .weight)) items p none) }; earns = refl },
-      omega (arith, r .profits, sum-cols (λ i. i .profit) items p none),
-    )
-
--- So its value is at most the optimum.
-pub whole-most : (items : List Item) (page v : ℕ) (p : List ℕ) → Whole items page v p → v ≤ mid + best items page
-whole-most items page v p h =
-    let z = whole-earned items page v p h in
-    omega (arith, z .2, z .1 .earns, best-is-most items page (z .1 .selection) (z .1 .fits))
-
--- the same for the path up from a row to the record: no terminal whose path is achieved is worth more than the record
+-- what a path takes that names no item below k and none from the last of `is` on
 sum-part : (f : Item → ℕ) (items : List Item) (k : ℕ) (is : List Item) (p : List ℕ) → ((opts : ℕ) → opts < k → timesNamed opts p ≡ 0) → ((opts : ℕ) → k + length is ≤ opts → timesNamed opts p ≡ 0) → sumTaken f items p ≡ cols f items k is p
 unfolding sumTaken timesNamed
 sum-part f items k is [] l h = sym (cols-nil f items k is)

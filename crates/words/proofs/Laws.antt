@@ -8,9 +8,7 @@ use lib.Dec.{leb, ltb, leb→le, le→leb}
 use lib.IntN.{ℤ, pos, negsuc, subℕ, _+ℤ_}
 use lib.Signed.{mag, leZ, ltZ}
 use borrow.Author.Tests.{lt-ltb, le-ltb, le-leb, lt-leb}
-use mir.Syntax.{w64}
-use mir.Val.{SFits}
-use Rattle.words.specs.I64.{mid, top, i64Min, i64Max, InI64, word, number, clamp, satAdd}
+use Rattle.words.specs.I64.{mid, top, InI64, word, number, clamp, satAdd}
 
 -- ---- i64 as one bound in ℕ: n < 2 ^ 63, both for n and for -(n + 1)
 
@@ -24,22 +22,7 @@ i64-of-magnitude (pos n) h =
 i64-of-magnitude (negsuc n) h =
     record { low = record { le = le→leb n (2 ^ 63 - 1) (omega arith) }; high = record { le = tt } }
 
--- what the checker knows of each i64 of the code, and back
-pub i64-of-fits : (z : ℤ) → SFits w64 z → InI64 z
-i64-of-fits z h = i64-of-magnitude z (h .sfits)
-
-pub fits-of-i64 : (z : ℤ) → InI64 z → SFits w64 z
-fits-of-i64 z h = record { sfits = magnitude-of-i64 z h }
-
 -- ---- the word of a number
-
-pub word-min : word i64Min ≡ 0
-unfolding word
-word-min = refl
-
-pub word-max : word i64Max ≡ top
-unfolding word
-word-max = refl
 
 pub word-natural : (n : ℕ) → word (pos n) ≡ mid + n
 unfolding word
@@ -118,14 +101,6 @@ word-lt (negsuc m) (negsuc n) ha hb =
     let q = magnitude-of-i64 (negsuc n) hb in
     same-leb (suc n) m (suc (mid - suc m)) (mid - suc n) (omega arith) (omega arith)
 
-pub number-le : (v w : ℕ) → v ≤ top → w ≤ top → leZ (number v) (number w) ≡ leb v w
-number-le v w hv hw =
-    word-le (number v) (number w) (number-in v hv) (number-in w hw) ∙ rw (word-number v hv, word-number w hw)
-
-pub number-lt : (v w : ℕ) → v ≤ top → w ≤ top → ltZ (number v) (number w) ≡ ltb v w
-number-lt v w hv hw =
-    word-lt (number v) (number w) (number-in v hv) (number-in w hw) ∙ rw (word-number v hv, word-number w hw)
-
 -- ---- the saturating sum
 
 word-sum : (a b : ℤ) → InI64 a → InI64 b → word (a +ℤ b) ≡ word a + word b - mid
@@ -147,14 +122,11 @@ word-clamp (negsuc n) =
     (λ h. rw (lt-ltb (2 ^ 63 - 1) n h) (omega arith))
     (λ h. rw (le-ltb (2 ^ 63 - 1) n (omega arith)) (omega arith))
 
-pub satAdd-bound : (a b : ℕ) → satAdd a b ≤ top
-unfolding satAdd
-satAdd-bound a b = omega arith
-
 pub satAdd-clamps : (a b : ℤ) → InI64 a → InI64 b → satAdd (word a) (word b) ≡ word (clamp (a +ℤ b))
 unfolding satAdd
 satAdd-clamps a b ha hb = omega (arith, word-sum a b ha hb, word-clamp (a +ℤ b))
 
-pub satAdd-naturals : (a b : ℕ) → a + b < mid → satAdd (mid + a) (mid + b) ≡ mid + (a + b)
+-- a natural number added to a word stops at the top alone
+pub satAdd-natural : (v n : ℕ) → satAdd v (mid + n) ≡ min top (v + n)
 unfolding satAdd
-satAdd-naturals a b h = omega arith
+satAdd-natural v n = omega arith

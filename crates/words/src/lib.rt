@@ -1,6 +1,7 @@
-// Numbers of i64 in 64-bit words of a table: to a word and back, and the saturating sum of two words.
+// Numbers of i64 in 64-bit words of a table: to a word and back, the saturating sum of two words, the larger and the smaller one; and the tests && and || as calls.
 ghost use mathlib.Core.Path.{_≡_};
-ghost use Prim.Native.Nat.{_+_};
+ghost use mathlib.Core.Bool.{_&&_, _||_};
+ghost use Prim.Native.Nat.{_+_, min, max};
 ghost use Rattle.words.specs.I64.{mid, word, number, satAdd};
 
 // The word that 0 stands as.
@@ -56,4 +57,30 @@ pub fn handed(value: u64, cost: u64) -> u64
     } else {
         value + cost
     }
+}
+
+pub fn larger(a: u64, b: u64) -> u64
+    ensures { λ r. ⌜ r ≡ max a b ⌝ }
+{
+    if a < b { b } else { a }
+}
+
+pub fn smaller(a: u64, b: u64) -> u64
+    ensures { λ r. ⌜ r ≡ min a b ⌝ }
+{
+    if a < b { a } else { b }
+}
+
+// a && b by a call, which is one way through its caller: the operator branches, and a proof would go both ways.
+pub fn both(a: bool, b: bool) -> bool
+    ensures { λ r. ⌜ r ≡ (a && b) ⌝ }
+{
+    if a { b } else { false }
+}
+
+// a || b by a call, likewise.
+pub fn either(a: bool, b: bool) -> bool
+    ensures { λ r. ⌜ r ≡ (a || b) ⌝ }
+{
+    if a { true } else { b }
 }

@@ -1,4 +1,4 @@
-/* stdbool.h: for a compiler that comes without headers; see README.md. */
+/* stdbool.h: for a compiler that comes without headers; see tools/hosts/README.md. */
 #ifndef KIT_STDBOOL_H
 #define KIT_STDBOOL_H
 

@@ -1,4 +1,4 @@
-/* stddef.h: for a compiler that comes without headers; see README.md. */
+/* stddef.h: for a compiler that comes without headers; see tools/hosts/README.md. */
 #ifndef KIT_STDDEF_H
 #define KIT_STDDEF_H
 

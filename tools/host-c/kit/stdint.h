@@ -1,4 +1,4 @@
-/* stdint.h: for a compiler that comes without headers; see README.md. */
+/* stdint.h: for a compiler that comes without headers; see tools/hosts/README.md. */
 #ifndef KIT_STDINT_H
 #define KIT_STDINT_H
 

@@ -1,4 +1,4 @@
-/* stdio.h: the calls of glibc that the host makes, for a compiler that comes without headers; see README.md. */
+/* stdio.h: the calls of glibc that the host makes, for a compiler that comes without headers; see tools/hosts/README.md. */
 #ifndef KIT_STDIO_H
 #define KIT_STDIO_H
 
@@ -8,6 +8,7 @@ typedef struct _IO_FILE FILE;
 extern FILE *stdin, *stdout, *stderr;
 
 FILE *fopen(const char *name, const char *mode);
+int fclose(FILE *file);
 size_t fread(void *into, size_t size, size_t count, FILE *from);
 size_t fwrite(const void *from, size_t size, size_t count, FILE *into);
 int ferror(FILE *file);

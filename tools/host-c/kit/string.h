@@ -1,4 +1,4 @@
-/* string.h: the calls of glibc that the host makes, for a compiler that comes without headers; see README.md. */
+/* string.h: the calls of glibc that the host makes, for a compiler that comes without headers; see tools/hosts/README.md. */
 #ifndef KIT_STRING_H
 #define KIT_STRING_H
 

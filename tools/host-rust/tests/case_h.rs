@@ -8,7 +8,7 @@ const ITEMS: Items = Items { weights: &[1, 1, 1], profits: &[4, 3, 2] };
 const ASKED: Question =
     Question { page: 2, width: 1, mode: Mode::Relaxed, cut: Cut::LastExactLayer, lower: i64::MIN, root: Record::root(2) };
 
-const NOTHING: Record = Record { capacity: 7, value: 7, bound: 7, depth: 7, path: [7; 64] };
+const OLD: Record = Record { capacity: 7, value: 7, bound: 7, depth: 7, path: [7; 64] };
 
 struct Compiled {
     answer: Result<Found, Refusal>,
@@ -18,7 +18,7 @@ struct Compiled {
 }
 
 fn compiled(question: Question) -> Compiled {
-    let (mut nodes, mut edges, mut records) = ([7; 72], [7; 60], [NOTHING; 2]);
+    let (mut nodes, mut edges, mut records) = ([7; 72], [7; 60], [OLD; 2]);
     let answer = compile(ITEMS, &mut Tables { nodes: &mut nodes, edges: &mut edges }, &mut records, question);
     Compiled { answer, nodes, edges, records }
 }
@@ -90,5 +90,5 @@ fn the_edges() {
 fn a_refusal() {
     let wide = compiled(Question { width: 257, ..ASKED });
     assert_eq!(wide.answer, Err(Refusal(6)));
-    assert_eq!((wide.nodes, wide.edges, wide.records), ([7; 72], [7; 60], [NOTHING; 2]));
+    assert_eq!((wide.nodes, wide.edges, wide.records), ([7; 72], [7; 60], [OLD; 2]));
 }

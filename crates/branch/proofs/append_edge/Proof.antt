@@ -1,56 +1,41 @@
+-- `branch::append_edge` meets its contract: the part of the table that was lent goes back behind the finished rows.
 use mathlib.Core.Path.{refl}
 use native.Mathlib.Omega.{arith}
 use Rattle.branch.proofs.Branches.{appended}
 use borrow.Author.Needs.{needs}
 use Rattle.branch.proofs.append_edge.Statement.{statement}
 use Rattle.branch.proofs.append_edge.Tie as tie
-use Rattle.branch.proofs.append_edge.Reads as reads
-use Rattle.branch.proofs.append_edge.Lts as lts
-use Rattle.branch.proofs.add_edge.Reads as add-edge-reads
-use Rattle.words.proofs.handed.Reads as handed-reads
-use Rattle.rows.proofs.read_node.Reads as read-node-reads
 
--- src/lib.rt:268:9
 read-node-requires : tie.Need-read-node-requires
 read-node-requires c κs = search needs
 
--- src/lib.rt:269:9
 handed-requires : tie.Need-handed-requires
 handed-requires c κs = search needs
 
--- src/lib.rt:271:16
 mul-tail : tie.Need-mul-tail
 mul-tail c = search needs
 
--- src/lib.rt:272:14
 mul-add-edge : tie.Need-mul-add-edge
 mul-add-edge c = search needs
 
--- src/lib.rt:272:14
 sub-add-edge : tie.Need-sub-add-edge
 sub-add-edge c = search needs
 
--- src/lib.rt:272:14
 part-add-edge-start : tie.Need-part-add-edge-start
 part-add-edge-start c = search needs
 
--- src/lib.rt:272:14
 part-add-edge-end : tie.Need-part-add-edge-end
 part-add-edge-end c = search needs
 
--- src/lib.rt:272:5
 add-edge-requires : tie.Need-add-edge-requires
 add-edge-requires c κs = search needs
 
--- src/lib.rt:262:1
 same-length : tie.Need-same-length
 same-length c = search needs
 
--- src/lib.rt:262:1
 same-length-2 : tie.Need-same-length-2
 same-length-2 c = search needs
 
--- src/lib.rt:262:1
 returns : tie.Need-returns
 returns c =
     let s = c .before .before .before .before .before .before .before .before .before .before .before .before in

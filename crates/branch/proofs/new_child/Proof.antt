@@ -1,3 +1,4 @@
+-- `branch::new_child` meets its contract: three refusals before anything is written, then the row and its edge.
 use native.Mathlib.Omega.{arith}
 use mathlib.Core.Path.{ap, _∙_}
 use Rattle.diagram.specs.Rule4.{receive}
@@ -5,64 +6,45 @@ use Rattle.branch.proofs.Children.{refused-10, refused-11, refused-12, 
 use borrow.Author.Needs.{needs}
 use Rattle.branch.proofs.new_child.Statement.{statement}
 use Rattle.branch.proofs.new_child.Tie as tie
-use Rattle.branch.proofs.new_child.Reads as reads
-use Rattle.branch.proofs.new_child.Lts as lts
-use Rattle.branch.proofs.enter.Reads as enter-reads
-use Rattle.branch.proofs.new_node.Reads as new-node-reads
-use Rattle.rows.proofs.write_edge.Reads as write-edge-reads
-use Rattle.rows.proofs.write_node.Reads as write-node-reads
 
--- src/lib.rt:187:15
 sub-row : tie.Need-sub-row
 sub-row c = search needs
 
--- src/lib.rt:189:9
 returns : tie.Need-returns
 returns c = refused-10 _ _ _ _ _ _ _ (c .if1 .taken)
 
--- src/lib.rt:192:9
 returns-2 : tie.Need-returns-2
 returns-2 c = refused-11 _ _ _ _ _ _ _ (c .before .before .if1 .left) (c .if2 .taken)
 
--- src/lib.rt:195:9
 returns-3 : tie.Need-returns-3
 returns-3 c = refused-12 _ _ _ _ _ _ _ (c .before .before .before .before .if1 .left) (c .before .before .if2 .left) (c .if3 .taken)
 
--- src/lib.rt:199:9
 new-node-requires : tie.Need-new-node-requires
 new-node-requires c κs = search needs
 
--- src/lib.rt:198:9
 enter-requires : tie.Need-enter-requires
 enter-requires c κs = search needs
 
--- src/lib.rt:203:5
 write-edge-requires : tie.Need-write-edge-requires
 write-edge-requires c κs = search needs
 
--- src/lib.rt:214:5
 write-node-requires : tie.Need-write-node-requires
 write-node-requires c κs =
     let s = c .before .before .before .before .before .before .before .before .before .before .before .before .before .before .before in
     omega (arith, s .pre .rooms-in, s .pre .first-low)
 
--- src/lib.rt:216:16
 add-t24 : tie.Need-add-t24
 add-t24 c = search needs
 
--- src/lib.rt:217:16
 add-t25 : tie.Need-add-t25
 add-t25 c = search needs
 
--- src/lib.rt:173:1
 same-length : tie.Need-same-length
 same-length c = search needs
 
--- src/lib.rt:173:1
 same-length-2 : tie.Need-same-length-2
 same-length-2 c = search needs
 
--- src/lib.rt:173:1
 returns-4 : tie.Need-returns-4
 returns-4 c =
     child-made _ _ _ _ _ _ _ _ _ _ (c .before .before .before .before .before .before .before .before .before .before .before .before .before .before .before .if1 .left) (c .before .before .before .before .before .before .before .before .before .before .before .before .before .if2 .left) (c .before .before .before .before .before .before .before .before .before .before .before .if3 .left)

@@ -1,11 +1,9 @@
+-- `branch::new_node` meets its contract: the definition, opened.
 use mathlib.Core.Path.{refl}
 use Rattle.diagram.specs.Node.{fresh}
 use Rattle.branch.proofs.new_node.Statement.{statement}
 use Rattle.branch.proofs.new_node.Tie as tie
-use Rattle.branch.proofs.new_node.Reads as reads
-use Rattle.branch.proofs.new_node.Lts as lts
 
--- src/lib.rt:153:1
 returns : tie.Need-returns
 unfolding fresh
 returns c = refl

@@ -6,29 +6,19 @@ use Rattle.compile.proofs.Calling.{told-accepted, told-refused, refused
 use borrow.Author.Needs.{needs}
 use Rattle.compile.proofs.compile.Statement.{statement}
 use Rattle.compile.proofs.compile.Tie as tie
-use Rattle.compile.proofs.compile.Reads as reads
-use Rattle.compile.proofs.compile.Lts as lts
-use Rattle.compile.proofs.refused.Reads as refused-reads
-use Rattle.compile.proofs.run.Reads as run-reads
-use Rattle.refusals.proofs.compile_refusal.Reads as compile-refusal-reads
 
--- src/lib.rt:233:9
 compile-refusal-requires : tie.Need-compile-refusal-requires
 compile-refusal-requires c κs = search needs
 
--- src/lib.rt:244:26
 enum-known-verdict : tie.Need-enum-known-verdict
 enum-known-verdict c = search needs
 
--- src/lib.rt:244:37
 refused-requires : tie.Need-refused-requires
 refused-requires c κs = search needs
 
--- src/lib.rt:245:52
 enum-told : tie.Need-enum-told
 enum-told c = search needs
 
--- src/lib.rt:245:30
 run-requires : tie.Need-run-requires
 run-requires c κs =
     let s = c .before .before .before .before .before .before .before .before .before .before .before .before .before in
@@ -36,7 +26,6 @@ run-requires c κs =
     let back = toZ-ofZ {w = w64} {z = s .args .q .value} (record { sfits = k .before .struct-told .given .1 .1 .1 .1 .1 .1 .0 .1 }) in
     sym (told-accepted _ _ (s .args .q) _ _ _ back (k .compile-refusal .ensures) (c .before .before .before .enum-told .given .1))
 
--- src/lib.rt:222:1
 returns : tie.Need-returns
 returns c =
     let s = c .before .before .before .before .before .before .before .before .before .before .before .before in
@@ -44,19 +33,15 @@ returns c =
     let back = toZ-ofZ {w = w64} {z = s .args .q .value} (record { sfits = k .before .struct-told .given .1 .1 .1 .1 .1 .1 .0 .1 }) in
     refused-first _ _ _ _ _ _ (told-refused _ _ (s .args .q) _ _ _ _ back (k .compile-refusal .ensures) (c .before .before .verdict .given .1)) (c .refused .ensures)
 
--- src/lib.rt:222:1
 same-length : tie.Need-same-length
 same-length c = search needs
 
--- src/lib.rt:222:1
 same-length-2 : tie.Need-same-length-2
 same-length-2 c = search needs
 
--- src/lib.rt:222:1
 same-length-3 : tie.Need-same-length-3
 same-length-3 c = search needs
 
--- src/lib.rt:222:1
 returns-2 : tie.Need-returns-2
 returns-2 c =
     let s = c .before .before .before .before .before .before .before .before .before .before .before .before .before .before .before .before .before .before .before .before in

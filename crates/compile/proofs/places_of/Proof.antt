@@ -1,3 +1,4 @@
+-- `places_of` meets its contract. The invariant: the first i bytes are copied, and 0 stands behind them. The measure is what is left of the path.
 use Rattle.compile.proofs.Values.{all-copied}
 use borrow.Author.Needs.{needs}
 use Prim.Native.Nat.{_≤_, _-_}
@@ -8,8 +9,6 @@ use Rattle.diagram.specs.Record.{padded}
 use Rattle.finish.proofs.Paths.{one-kept}
 use Rattle.compile.proofs.places_of.Statement.{statement}
 use Rattle.compile.proofs.places_of.Tie as tie
-use Rattle.compile.proofs.places_of.Reads as reads
-use Rattle.compile.proofs.places_of.Lts as lts
 
 abbrev Inv-loop : tie.InvT-loop
 Inv-loop path places₀ i₀ places i = (i ≤ length path) × (places ≡ padded (take i path))
@@ -17,32 +16,25 @@ Inv-loop path places₀ i₀ places i = (i ≤ length path) × (places ≡ padde
 abbrev μ-loop : tie.MeasureT-loop
 μ-loop path places₀ i₀ places i = length path - i
 
--- src/lib.rt:90:5
 loop-holds : tie.Need-loop-holds Inv-loop μ-loop
 unfolding padded
 loop-holds c = (omega arith, refl)
 
--- src/lib.rt:91:21
 shared-slice-read-places : tie.Need-shared-slice-read-places Inv-loop μ-loop
 shared-slice-read-places c = search needs
 
--- src/lib.rt:91:9
 array-write-places : tie.Need-array-write-places Inv-loop μ-loop
 array-write-places c = search needs
 
--- src/lib.rt:92:9
 add-i : tie.Need-add-i Inv-loop μ-loop
 add-i c = search needs
 
--- src/lib.rt:90:5
 loop-less : tie.Need-loop-less Inv-loop μ-loop
 loop-less c = search needs
 
--- src/lib.rt:90:5
 loop-again : tie.Need-loop-again Inv-loop μ-loop
 loop-again c = let v = c .before .before .loop .inv in (omega arith, one-kept _ _ _ (omega arith) (omega arith) (v .1))
 
--- src/lib.rt:84:1
 returns : tie.Need-returns Inv-loop μ-loop
 returns c = all-copied _ _ _ (c .loop-test .left) (c .before .loop .inv .1)
 

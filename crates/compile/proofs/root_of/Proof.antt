@@ -7,15 +7,10 @@ use Rattle.compile.proofs.Values.{root-made}
 use borrow.Author.Needs.{needs}
 use Rattle.compile.proofs.root_of.Statement.{statement}
 use Rattle.compile.proofs.root_of.Tie as tie
-use Rattle.compile.proofs.root_of.Reads as reads
-use Rattle.compile.proofs.root_of.Lts as lts
-use Rattle.words.proofs.word.Reads as word-reads
 
--- src/lib.rt:144:16
 word-requires : tie.Need-word-requires
 word-requires c κs = search needs
 
--- src/lib.rt:139:1
 returns : tie.Need-returns
 returns c =
     let q = c .before .before .args .q in

@@ -3,85 +3,60 @@ use Rattle.compile.proofs.Running.{short, told-growable, told-finalizab
 use borrow.Author.Needs.{needs}
 use Rattle.compile.proofs.run.Statement.{statement}
 use Rattle.compile.proofs.run.Tie as tie
-use Rattle.compile.proofs.run.Reads as reads
-use Rattle.compile.proofs.run.Lts as lts
-use Rattle.compile.proofs.conclude.Reads as conclude-reads
-use Rattle.compile.proofs.given_of.Reads as given-of-reads
-use Rattle.grow.proofs.relaxes.Reads as relaxes-reads
-use Rattle.compile.proofs.refused.Reads as refused-reads
-use Rattle.compile.proofs.root_of.Reads as root-of-reads
-use Rattle.compile.proofs.task_of.Reads as task-of-reads
-use Rattle.grow.proofs.grow.Reads as grow-reads
 
--- src/lib.rt:207:9
 task-of-requires : tie.Need-task-of-requires
 task-of-requires c κs = search needs
 
--- src/lib.rt:208:59
 root-of-requires : tie.Need-root-of-requires
 root-of-requires c κs = search needs
 
--- src/lib.rt:208:9
 grow-requires : tie.Need-grow-requires
 grow-requires c κs =
     let s = c .before .before .before .before .before .before .before .before .before .before in
     told-growable _ _ (s .args .q) (s .args .path .now) _ _ (s .args .records .now) (s .pre) _ _ (c .before .before .before .task-of .ensures) (c .root-of .ensures)
 
--- src/lib.rt:211:23
 enum-known-step : tie.Need-enum-known-step
 enum-known-step c = search needs
 
--- src/lib.rt:211:37
 refused-requires : tie.Need-refused-requires
 refused-requires c κs = search needs
 
--- src/lib.rt:212:21
 enum-known-step-2 : tie.Need-enum-known-step-2
 enum-known-step-2 c = search needs
 
--- src/lib.rt:215:17
 given-of-requires : tie.Need-given-of-requires
 given-of-requires c κs =
     let s = c .before .before .before .before .before .before .before .before .before .before .before .before .before .before .before .before .before .before in
     short _ _ (s .args .q) _ (s .pre)
 
--- src/lib.rt:216:51
 relaxes-requires : tie.Need-relaxes-requires
 relaxes-requires c κs = search needs
 
--- src/lib.rt:216:13
 conclude-requires : tie.Need-conclude-requires
 conclude-requires c κs =
     let s = c .before .before .before .before .before .before .before .before .before .before .before .before .before .before .before .before .before .before .before .before .before .before .before in
     told-finalizable _ _ (s .args .q) (s .args .path .now) (s .args .nodes .now) (s .args .edges .now) _ (s .pre) _ _ (c .before .before .before .before .before .before .before .before .before .before .before .before .before .before .before .before .task-of .ensures) (c .before .before .before .before .before .before .before .before .before .before .before .before .before .root-of .ensures) _ _ _ (c .before .before .before .before .before .before .before .before .before .before .before .before .grow .ensures) _ _ (c .before .before .before .before .before .before .step2 .given .1) (c .before .before .before .before .given-of .ensures)
 
--- src/lib.rt:195:1
 same-length : tie.Need-same-length
 same-length c = search needs
 
--- src/lib.rt:195:1
 same-length-2 : tie.Need-same-length-2
 same-length-2 c = search needs
 
--- src/lib.rt:195:1
 returns : tie.Need-returns
 returns c =
     let s = c .before .before .before .before .before .before .before .before .before .before .before .before .before .before .before .before .before .before .before in
     told-stopped _ _ (s .args .q) (s .args .path .now) (s .args .nodes .now) (s .args .edges .now) (s .args .records .now) (s .pre) _ _ (c .before .before .before .before .before .before .before .before .before .before .before .before .task-of .ensures) (c .before .before .before .before .before .before .before .before .before .root-of .ensures) _ _ _ (c .before .before .before .before .before .before .before .before .grow .ensures) _ _ _ (c .before .before .step .given .1) (c .refused .ensures)
 
--- src/lib.rt:195:1
 same-length-3 : tie.Need-same-length-3
 same-length-3 c = search needs
 
--- src/lib.rt:195:1
 same-length-4 : tie.Need-same-length-4
 same-length-4 c = search needs
 
--- src/lib.rt:195:1
 same-length-5 : tie.Need-same-length-5
 same-length-5 c = search needs
 
--- src/lib.rt:195:1
 returns-2 : tie.Need-returns-2
 returns-2 c =
     let s = c .before .before .before .before .before .before .before .before .before .before .before .before .before .before .before .before .before .before .before .before .before .before .before .before .before .before .before .before in

@@ -7,15 +7,10 @@ use Rattle.compile.proofs.Values.{task-made}
 use borrow.Author.Needs.{needs}
 use Rattle.compile.proofs.task_of.Statement.{statement}
 use Rattle.compile.proofs.task_of.Tie as tie
-use Rattle.compile.proofs.task_of.Reads as reads
-use Rattle.compile.proofs.task_of.Lts as lts
-use Rattle.words.proofs.word.Reads as word-reads
 
--- src/lib.rt:131:16
 word-requires : tie.Need-word-requires
 word-requires c κs = search needs
 
--- src/lib.rt:124:1
 returns : tie.Need-returns
 returns c =
     let a = c .before .before .args in

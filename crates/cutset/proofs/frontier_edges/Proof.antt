@@ -1,6 +1,5 @@
 -- `cutset::frontier_edges` meets its contract: at each turn the parents over the edges from e on are left, and the next edge is an older one.
 use mathlib.Core.Path.{_≡_, refl, _∙_}
-use Prim.Native.Nat.{_≤_}
 use native.Mathlib.Omega.{arith}
 use lib.ListN.{length}
 use Rattle.cutset.proofs.Inbound.{Walking, walk-starts, walk-ends, walk-on, standing, edge-asked, next-falls, parent-asked}

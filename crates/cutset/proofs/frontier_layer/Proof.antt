@@ -3,9 +3,9 @@ use mathlib.Core.Path.{_≡_, refl, _∙_}
 use Prim.Native.Nat.{_-_, _≤_}
 use native.Mathlib.Omega.{arith}
 use lib.ListN.{length}
-use Rattle.diagram.specs.Tables.{rowsFrom}
+use Rattle.theorems.proofs.Once.{rows-few}
 use Rattle.cutset.specs.Trace.{FewInside, FewUpto, Traced, ofRow, ofRows}
-use Rattle.cutset.proofs.Listing.{tracing-then, rows-step, rows-none, rows-all, rows-more, ofrows-none, few-rows}
+use Rattle.cutset.proofs.Listing.{tracing-then, rows-step, rows-none, rows-all, rows-more, ofrows-none}
 use Rattle.cutset.proofs.frontier_layer.Statement.{statement}
 use Rattle.cutset.proofs.frontier_layer.Tie as tie
 
@@ -21,7 +21,7 @@ loop-holds c = (omega arith, (omega arith, (refl, (refl, rows-none (FewUpto _) o
 frontier-row-requires : tie.Need-frontier-row-requires Inv-loop μ-loop
 frontier-row-requires c κs =
     let L = c .before .before .before .loop in
-    tracing-then _ (FewInside (L .r)) _ _ _ _ _ _ _ _ _ (λ d x p. (omega (arith, c .before .before .loop-test .taken), few-rows d _ x (p .1))) (c .before .before .before .before .before .before .before .pre) (L .inv .1 .1 .1 .1)
+    tracing-then _ (FewInside (L .r)) _ _ _ _ _ _ _ _ _ (λ d x p. (omega (arith, c .before .before .loop-test .taken), rows-few (d .edges) _ x (p .1))) (c .before .before .before .before .before .before .before .pre) (L .inv .1 .1 .1 .1)
 
 add-r : tie.Need-add-r Inv-loop μ-loop
 add-r c =
@@ -43,7 +43,7 @@ loop-again c =
           p .kept .0 ∙ v .1 .1 .0,
           (
             p .kept .1 .1 .0 ∙ v .1 .1 .1 .0,
-            rows-step (FewUpto _) (FewInside (L .r)) ofRows ofRow rows-more _ _ _ _ _ _ _ _ _ _ _ _ _ (v .0) (λ d x u. (omega (arith, t), few-rows d _ x (u .1))) (v .1 .1 .1 .1) (p .ensures),
+            rows-step (FewUpto _) (FewInside (L .r)) ofRows ofRow rows-more _ _ _ _ _ _ _ _ _ _ _ _ _ (v .0) (λ d x u. (omega (arith, t), rows-few (d .edges) _ x (u .1))) (v .1 .1 .1 .1) (p .ensures),
           ),
         ),
       ),

@@ -1,9 +1,8 @@
 -- `cutset::frontier_layers` meets its contract: at each turn the first i stored layers are left.
 use mathlib.Core.Path.{_≡_, refl, _∙_}
-use Prim.Native.Nat.{_-_, _≤_}
+use Prim.Native.Nat.{_≤_}
 use native.Mathlib.Omega.{arith}
 use lib.ListN.{length}
-use borrow.Author.Needs.{needs}
 use Rattle.cutset.proofs.Layered.{Descending, at-last, past-first, layer-asked, one-down}
 use Rattle.cutset.proofs.frontier_layers.Statement.{statement}
 use Rattle.cutset.proofs.frontier_layers.Tie as tie

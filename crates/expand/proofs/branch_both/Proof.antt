@@ -1,61 +1,46 @@
+-- `expand::branch_both` meets its contract: a take that is refused stands, else skip is tried on what it left.
 use native.Mathlib.Omega.{arith}
 use Rattle.expand.proofs.Decisions.{ready-of, both-stopped, both-going, still-fit}
 use borrow.Author.Needs.{needs}
 use Rattle.expand.proofs.branch_both.Statement.{statement}
 use Rattle.expand.proofs.branch_both.Tie as tie
-use Rattle.expand.proofs.branch_both.Reads as reads
-use Rattle.expand.proofs.branch_both.Lts as lts
-use Rattle.branch.proofs.branch_on.Reads as branch-on-reads
-use Rattle.expand.proofs.branch_take.Reads as branch-take-reads
 
--- src/lib.rt:47:9
 branch-take-requires : tie.Need-branch-take-requires
 branch-take-requires c κs = search needs
 
--- src/lib.rt:49:23
 enum-known-step : tie.Need-enum-known-step
 enum-known-step c = search needs
 
--- src/lib.rt:50:21
 enum-known-step-2 : tie.Need-enum-known-step-2
 enum-known-step-2 c = search needs
 
--- src/lib.rt:52:40
 mul-t20 : tie.Need-mul-t20
 mul-t20 c = search needs
 
--- src/lib.rt:52:87
 add-t21 : tie.Need-add-t21
 add-t21 c = search needs
 
--- src/lib.rt:53:13
 branch-on-requires : tie.Need-branch-on-requires
 branch-on-requires c κs =
     let s = c .before .before .before .before .before .before .before .before .before .before .before .before .before .before in
     let f = still-fit _ _ _ _ (c .before .before .before .before .before .before .before .before .before .branch-take .ensures .fits) (c .before .before .before .step2 .given .1) in
     (ready-of _ _ _ _ _ (record { fit = f; rooms-in = omega (arith, s .pre .0 .rooms-in); edges-in = omega (arith, s .pre .0 .edges-in) }), s .pre .1 .0)
 
--- src/lib.rt:41:1
 same-length : tie.Need-same-length
 same-length c = search needs
 
--- src/lib.rt:41:1
 same-length-2 : tie.Need-same-length-2
 same-length-2 c = search needs
 
--- src/lib.rt:41:1
 returns : tie.Need-returns
 returns c = both-stopped _ _ _ _ _ _ _ _ _ _ _ _ _ (c .before .before .before .before .before .before .before .branch-take .ensures) (c .before .step .given .1)
 
--- src/lib.rt:41:1
 same-length-3 : tie.Need-same-length-3
 same-length-3 c = search needs
 
--- src/lib.rt:41:1
 same-length-4 : tie.Need-same-length-4
 same-length-4 c = search needs
 
--- src/lib.rt:41:1
 returns-2 : tie.Need-returns-2
 returns-2 c = both-going _ _ _ _ _ _ _ _ _ _ _ _ _ _ _ (c .before .before .before .before .before .before .before .before .before .before .before .before .before .before .branch-take .ensures) (c .before .before .before .before .before .before .before .before .step2 .given .1) (c .before .before .before .before .branch-on .ensures)
 

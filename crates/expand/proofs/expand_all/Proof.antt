@@ -1,3 +1,4 @@
+-- `expand::expand_all` meets its contract. The invariant: the first i rows are expanded, or one of them was refused. The measure is what is left of the list.
 use mathlib.Core.Path.{_≡_, refl}
 use Prim.Native.Nat.{_≤_, _-_}
 use native.Mathlib.Omega.{arith}
@@ -10,9 +11,6 @@ use Rattle.expand.proofs.Decisions.{still-fit}
 use Rattle.expand.proofs.Rounds.{Passed, passed-stopped, start-of, next-of, done-of}
 use Rattle.expand.proofs.expand_all.Statement.{statement}
 use Rattle.expand.proofs.expand_all.Tie as tie
-use Rattle.expand.proofs.expand_all.Reads as reads
-use Rattle.expand.proofs.expand_all.Lts as lts
-use Rattle.expand.proofs.expand_node.Reads as expand-node-reads
 
 abbrev Inv-loop : tie.InvT-loop
 Inv-loop nodes₀ edges₀ weights profits list count start rooms depth lower step₀ i₀ nodes edges step i =
@@ -21,47 +19,38 @@ Inv-loop nodes₀ edges₀ weights profits list count start rooms depth lower st
 abbrev μ-loop : tie.MeasureT-loop
 μ-loop nodes₀ edges₀ weights profits list count start rooms depth lower step₀ i₀ nodes edges step i = count - i
 
--- src/lib.rt:109:5
 loop-holds : tie.Need-loop-holds Inv-loop μ-loop
 loop-holds c =
     let s = c .before .before .before .before .before in
     (omega arith, refl, refl, λ k e. start-of _ _ _ _ _ _ _ _ _ _ _ e (s .pre .0 .0 .fit))
 
--- src/lib.rt:110:25
 enum-known-step : tie.Need-enum-known-step Inv-loop μ-loop
 enum-known-step c = search needs
 
--- src/lib.rt:111:13
 enum-told : tie.Need-enum-told Inv-loop μ-loop
 enum-told c = search needs
 
--- src/lib.rt:111:13
 same-length : tie.Need-same-length Inv-loop μ-loop
 same-length c = omega (arith, c .before .before .before .loop .inv .1)
 
--- src/lib.rt:111:13
 same-length-2 : tie.Need-same-length-2 Inv-loop μ-loop
 same-length-2 c = omega (arith, c .before .before .before .loop .inv .2)
 
--- src/lib.rt:111:13
 returns : tie.Need-returns Inv-loop μ-loop
 returns c =
     let s = c .before .before .before .before .before .before .before .before .before in
     passed-stopped _ _ _ _ _ _ _ _ _ _ _ _ _ _ _ _ (c .enum-told .given .1) (c .before .before .before .loop .inv .3 (s .args .k) refl)
 
--- src/lib.rt:113:103
 mul-t20 : tie.Need-mul-t20 Inv-loop μ-loop
 mul-t20 c =
     let s = c .before .before .before .before .before .before .before .before .before .before .before .before in
     omega (arith, c .before .before .before .before .before .loop-test .taken, s .pre .1 .0)
 
--- src/lib.rt:113:103
 shared-slice-read-t22 : tie.Need-shared-slice-read-t22 Inv-loop μ-loop
 shared-slice-read-t22 c =
     let s = c .before .before .before .before .before .before .before .before .before .before .before .before .before in
     omega (arith, c .before .before .before .before .before .before .loop-test .taken, s .pre .1 .0)
 
--- src/lib.rt:113:9
 expand-node-requires : tie.Need-expand-node-requires Inv-loop μ-loop
 expand-node-requires c κs =
     let s = c .before .before .before .before .before .before .before .before .before .before .before .before .before in
@@ -69,17 +58,14 @@ expand-node-requires c κs =
     let f = still-fit _ _ _ _ (v .3 (s .args .k) refl .fits) (c .before .before .before .before .step .given .1) in
     (record { fit = f; rooms-in = omega (arith, s .pre .0 .0 .rooms-in, v .1); edges-in = omega (arith, s .pre .0 .0 .edges-in, v .2) }, (below-read _ _ _ _ (s .pre .1 .1) (s .pre .1 .0) (c .before .before .before .before .before .before .loop-test .taken), (s .pre .0 .1 .0, s .pre .0 .1 .1)))
 
--- src/lib.rt:114:9
 add-i : tie.Need-add-i Inv-loop μ-loop
 add-i c =
     let s = c .before .before .before .before .before .before .before .before .before .before .before .before .before .before .before .before .before .before in
     omega (arith, c .before .before .before .before .before .before .before .before .before .before .before .loop-test .taken, s .pre .1 .0)
 
--- src/lib.rt:109:5
 loop-less : tie.Need-loop-less Inv-loop μ-loop
 loop-less c = omega (arith, c .before .before .before .before .before .before .before .before .before .before .before .loop-test .taken)
 
--- src/lib.rt:109:5
 loop-again : tie.Need-loop-again Inv-loop μ-loop
 loop-again c =
     let s = c .before .before .before .before .before .before .before .before .before .before .before .before .before .before .before .before .before .before in
@@ -87,15 +73,12 @@ loop-again c =
     let t = c .before .before .before .before .before .before .before .before .before .before .before .loop-test .taken in
     (omega (arith, t), omega (arith, v .1), omega (arith, v .2), λ k e. next-of _ _ _ _ _ _ _ _ _ _ _ _ _ _ _ _ _ _ _ t (s .pre .1 .0) (s .pre .1 .1) (c .before .before .before .before .before .before .before .before .before .step .given .1) (v .3 k e) (c .before .before .before .before .expand-node .ensures))
 
--- src/lib.rt:100:1
 same-length-3 : tie.Need-same-length-3 Inv-loop μ-loop
 same-length-3 c = omega (arith, c .before .loop .inv .1)
 
--- src/lib.rt:100:1
 same-length-4 : tie.Need-same-length-4 Inv-loop μ-loop
 same-length-4 c = omega (arith, c .before .loop .inv .2)
 
--- src/lib.rt:100:1
 returns-2 : tie.Need-returns-2 Inv-loop μ-loop
 returns-2 c =
     let s = c .before .before .before .before .before .before .before in

@@ -1,96 +1,71 @@
+-- `expand::expand_node` meets its contract: the fast bound is noted on both ways, and only above the lower bound both decisions are tried.
 use mathlib.Core.Path.{refl}
 use native.Mathlib.Omega.{arith}
 use Rattle.expand.proofs.Nodes.{noted-of, at-most, above, not-branched, branched-both}
 use borrow.Author.Needs.{needs}
 use Rattle.expand.proofs.expand_node.Statement.{statement}
 use Rattle.expand.proofs.expand_node.Tie as tie
-use Rattle.expand.proofs.expand_node.Reads as reads
-use Rattle.expand.proofs.expand_node.Lts as lts
-use Rattle.blocks.proofs.counted.Reads as counted-reads
-use Rattle.blocks.proofs.fast_upper_bound.Reads as fast-upper-bound-reads
-use Rattle.expand.proofs.branch_both.Reads as branch-both-reads
-use Rattle.expand.proofs.with_fast.Reads as with-fast-reads
-use Rattle.rows.proofs.read_node.Reads as read-node-reads
-use Rattle.rows.proofs.write_node.Reads as write-node-reads
-use Rattle.words.proofs.handed.Reads as handed-reads
 
--- src/lib.rt:88:9
 read-node-requires : tie.Need-read-node-requires
 read-node-requires c κs = search needs
 
--- src/lib.rt:89:9
 fast-upper-bound-requires : tie.Need-fast-upper-bound-requires
 fast-upper-bound-requires c κs = search needs
 
--- src/lib.rt:90:48
 add-with-fast : tie.Need-add-with-fast
 add-with-fast c = search needs
 
--- src/lib.rt:90:32
 with-fast-requires : tie.Need-with-fast-requires
 with-fast-requires c κs = search needs
 
--- src/lib.rt:90:5
 write-node-requires : tie.Need-write-node-requires
 write-node-requires c κs = search needs
 
--- src/lib.rt:91:8
 handed-requires : tie.Need-handed-requires
 handed-requires c κs = search needs
 
--- src/lib.rt:92:9
 same-length : tie.Need-same-length
 same-length c = search needs
 
--- src/lib.rt:92:9
 returns : tie.Need-returns
 returns c =
     let note = noted-of _ _ _ _ _ _ _ _ _ (c .before .before .before .before .before .before .before .before .read-node .ensures) (c .before .before .before .before .before .before .before .fast-upper-bound .ensures .0) (c .before .before .before .before .before .with-fast .ensures) (c .before .before .before .before .write-node .ensures) in
     not-branched _ _ _ _ _ _ _ _ _ _ _ _ _ (c .before .before .before .before .before .before .before .before .before .before .before .before .before .before .pre .0 .fit) note (at-most _ _ _ (c .before .handed .ensures) (c .if1 .taken))
 
--- src/lib.rt:94:58
 mul-counted : tie.Need-mul-counted
 mul-counted c =
     let s = c .before .before .before .before .before .before .before .before .before .before .before .before .before .before in
     omega (arith, s .pre .1 .1 .1, s .pre .1 .1 .0 .few)
 
--- src/lib.rt:94:58
 shared-slice-read-counted : tie.Need-shared-slice-read-counted
 shared-slice-read-counted c =
     let s = c .before .before .before .before .before .before .before .before .before .before .before .before .before .before .before in
     omega (arith, s .pre .1 .1 .1)
 
--- src/lib.rt:94:42
 counted-requires : tie.Need-counted-requires
 counted-requires c κs = search needs
 
--- src/lib.rt:94:83
 mul-t25 : tie.Need-mul-t25
 mul-t25 c =
     let s = c .before .before .before .before .before .before .before .before .before .before .before .before .before .before .before .before in
     omega (arith, s .pre .1 .1 .1, s .pre .1 .1 .0 .few)
 
--- src/lib.rt:94:83
 shared-slice-read-t27 : tie.Need-shared-slice-read-t27
 shared-slice-read-t27 c =
     let s = c .before .before .before .before .before .before .before .before .before .before .before .before .before .before .before .before .before in
     omega (arith, s .pre .1 .1 .1, s .pre .1 .1 .0 .paired)
 
--- src/lib.rt:95:5
 branch-both-requires : tie.Need-branch-both-requires
 branch-both-requires c κs =
     let s = c .before .before .before .before .before .before .before .before .before .before .before .before .before .before .before .before .before .before .before in
     (record { fit = s .pre .0 .fit; rooms-in = omega (arith, s .pre .0 .rooms-in); edges-in = omega (arith, s .pre .0 .edges-in) }, (s .pre .1 .0, omega (arith, s .pre .1 .1 .1, s .pre .1 .1 .0 .few)))
 
--- src/lib.rt:82:1
 same-length-2 : tie.Need-same-length-2
 same-length-2 c = search needs
 
--- src/lib.rt:82:1
 same-length-3 : tie.Need-same-length-3
 same-length-3 c = search needs
 
--- src/lib.rt:82:1
 returns-2 : tie.Need-returns-2
 returns-2 c =
     let s = c .before .before .before .before .before .before .before .before .before .before .before .before .before .before .before .before .before .before .before .before .before .before .before .before in

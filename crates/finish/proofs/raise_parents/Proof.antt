@@ -22,8 +22,8 @@ sub-t9 c = omega arith
 read-edge-requires : tie.Need-read-edge-requires Inv-loop μ-loop
 read-edge-requires c κs = link-readable _ _ _ _ _ _ (c .before .before .before .before .pre) (c .before .loop .inv .1) (c .loop-test .taken)
 
-plus-cost-requires : tie.Need-plus-cost-requires Inv-loop μ-loop
-plus-cost-requires c κs = search needs
+handed-requires : tie.Need-handed-requires Inv-loop μ-loop
+handed-requires c κs = search needs
 
 -- what a turn asks
 turn : (c : tie.After-read-edge Inv-loop μ-loop) → Turn (c .before .before .loop .nodes) (c .before .before .loop .link) (c .read-edge .result .from .0) (c .read-edge .result .next .0)
@@ -42,7 +42,7 @@ loop-again c =
     let p = c .before .before in
     let e = p .before .before .before .before in
     let l = e .before .before .loop in
-    (omega (arith, p .raise-parent .kept .0), raise-one _ _ _ _ _ _ _ _ _ (e .before .loop-test .taken) (e .read-edge .ensures) (p .before .plus-cost .ensures) (p .raise-parent .ensures) (l .inv .1))
+    (omega (arith, p .raise-parent .kept .0), raise-one _ _ _ _ _ _ _ _ _ (e .before .loop-test .taken) (e .read-edge .ensures) (p .before .handed .ensures) (p .raise-parent .ensures) (l .inv .1))
 
 same-length : tie.Need-same-length Inv-loop μ-loop
 same-length c = c .before .loop .inv .0
@@ -59,7 +59,7 @@ raise-parents-spec =
     loop-holds
     sub-t9
     read-edge-requires
-    plus-cost-requires
+    handed-requires
     raise-parent-requires
     loop-less
     loop-again

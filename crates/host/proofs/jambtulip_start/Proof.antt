@@ -28,7 +28,7 @@ use denote.Struct.Laws as LL
 use denote.Triple.Table.{entered as enters, cited}
 use Rattle.border.proofs.Terms as Te
 use Rattle.border.proofs.Terms.Laws as Te′
-use Rattle.border.proofs.Held as He
+use Rattle.border.proofs.HostSearch as Hs
 use Rattle.records.proofs.Record as T
 use Rattle.border.proofs.ask_in.Symbol as asked-def
 use Rattle.border.proofs.ask_in.Symbol.{name as #asked}
@@ -54,7 +54,7 @@ mod Walk
 module _ {M : Type 1} (𝓤 : URA M) (H : Heap 𝓤) (A : Atoms 𝓤) (W : Given 𝓤 H A) (mem : Memory → SProp 𝓤) (run : Routine → Fun 𝓤) (𝓣 : Tables 𝓤 H) (known : Known 𝓤 H A mem run 𝓣) where
   walk : (p : Passed) → ent 𝓤 (onEntry 𝓤 H A f.signature (lfts p) (parts p) (args p) (vals p)) (WpFn 𝓤 H (𝓣 .C) (𝓣 .Λ) code.function (passed-vals p) (Post 𝓤 H A mem run p))
   walk p =
-      qed W ((‵ (flft (p .κ₀) (p .q₀)) ⊛ (‵ (flft (p .κ₁) (p .q₁)) ⊛ (‵ (flft (p .κ₂) (p .q₂)) ⊛ (‵ (flft (p .κ₃) (p .q₃)) ⊛ ‵ ftrue)))) ∷ ‵ (owns (ShrSlice (named 0) (p .κ₀) u64 ∷ ShrSlice (named 1) (p .κ₁) u64 ∷ Te.the-row ∷ i64 ∷ MutSlice (named 2) (p .κ₂) T.the-row ∷ MutRef (named 3) (p .κ₃) He.the-row ∷ []) (args p) (vals p)) ∷ []) ∵
+      qed W ((‵ (flft (p .κ₀) (p .q₀)) ⊛ (‵ (flft (p .κ₁) (p .q₁)) ⊛ (‵ (flft (p .κ₂) (p .q₂)) ⊛ (‵ (flft (p .κ₃) (p .q₃)) ⊛ ‵ ftrue)))) ∷ ‵ (owns (ShrSlice (named 0) (p .κ₀) u64 ∷ ShrSlice (named 1) (p .κ₁) u64 ∷ Te.the-row ∷ i64 ∷ MutSlice (named 2) (p .κ₂) T.the-row ∷ MutRef (named 3) (p .κ₃) Hs.the-row ∷ []) (args p) (vals p)) ∷ []) ∵
       split ! $ move ! (1 ∷ []) $ split ! $ move ! (1 ∷ []) $ split ! $ move ! (1 ∷ []) $ split ! $ move ! (5 ∷ []) $ fsplit ! $ move ! (1 ∷ []) $ fsplit ! $ move ! (1 ∷ []) $ fsplit ! $ move ! (1 ∷ []) $ fsplit ! $ move ! (1 ∷ []) $ fsplit ! $ move ! (1 ∷ []) $ fsplit ! $ fsplit3 ! $ drop ! $ keep ! (0 ∷ 1 ∷ 8 ∷ 12 ∷ 11 ∷ 10 ∷ 7 ∷ 6 ∷ 3 ∷ []) $
       enter ! (𝓣 .C) (𝓣 .Λ) code.function (passed-vals p) (Post 𝓤 H A mem run p) $
       subst (λ (ls : List Local). Sq W (Taken 𝓤 H A W mem run p 𝓣 known) (allocs ls (Runs 𝓤 H A W mem run p 𝓣 known))) same-locals (entered 𝓤 H A W mem run p 𝓣 known)
@@ -63,7 +63,7 @@ module _ {M : Type 1} (𝓤 : URA M) (H : Heap 𝓤) (A : Atoms 𝓤) (W : Given
   jambtulip-start-walks =
       walked 𝓤 H A f.ended stayed (f.clauses 𝓤 H A mem run) (WpFn 𝓤 H (𝓣 .C) (𝓣 .Λ) code.function)
       (λ κs. (slice-vals, (slice-vals, (LL.vals Te.the-type Te′.the-laws, (sint-vals w64, (slice-vals, (ptr-vals, tt)))))))
-      (λ κs. (shr-slice-tells (named 0) (κs .0) u64, (shr-slice-tells (named 1) (κs .1 .0) u64, (LL.tells Te.the-type Te′.the-laws, (sint-tells w64, (mut-slice-tells (named 2) (κs .1 .1 .0) T.the-row, (mut-tells (named 3) (κs .1 .1 .1 .0) He.the-row, tt)))))))
+      (λ κs. (shr-slice-tells (named 0) (κs .0) u64, (shr-slice-tells (named 1) (κs .1 .0) u64, (LL.tells Te.the-type Te′.the-laws, (sint-tells w64, (mut-slice-tells (named 2) (κs .1 .1 .0) T.the-row, (mut-tells (named 3) (κs .1 .1 .1 .0) Hs.the-row, tt)))))))
       (λ κs qs bounds a g are. via 𝓤 _ (fst∗ 𝓤 _ (emp 𝓤)) (walk record {
         κ₀ = κs .0;
         κ₁ = κs .1 .0;
@@ -91,7 +91,7 @@ module _ {M : Type 1} (𝓤 : URA M) (H : Heap 𝓤) (A : Atoms 𝓤) (W : Given
       }))
 
   goes : AllGo 𝓤 H A W 4 (f.signature .params) (f.ended .kept) stayed
-  goes = (goes-dropped 𝓤 H A W 4 (shrSliceOf (0 ∷ []) tt (plain (λ _. u64))) yes (λ κs x f. refl), (goes-dropped 𝓤 H A W 4 (shrSliceOf (1 ∷ []) tt (plain (λ _. u64))) yes (λ κs x f. refl), (goes-dropped 𝓤 H A W 4 (plain (λ _. Te.the-row)) yes (λ κs x f. refl), (goes-dropped 𝓤 H A W 4 (plain (λ _. i64)) yes (λ κs x f. refl), (goes-gave-slice 𝓤 H A W 4 2 tt (plain (λ _. T.the-row)), (goes-ref 𝓤 H A W 4 3 tt (plain (λ _. He.the-row)), tt))))))
+  goes = (goes-dropped 𝓤 H A W 4 (shrSliceOf (0 ∷ []) tt (plain (λ _. u64))) yes (λ κs x f. refl), (goes-dropped 𝓤 H A W 4 (shrSliceOf (1 ∷ []) tt (plain (λ _. u64))) yes (λ κs x f. refl), (goes-dropped 𝓤 H A W 4 (plain (λ _. Te.the-row)) yes (λ κs x f. refl), (goes-dropped 𝓤 H A W 4 (plain (λ _. i64)) yes (λ κs x f. refl), (goes-gave-slice 𝓤 H A W 4 2 tt (plain (λ _. T.the-row)), (goes-ref 𝓤 H A W 4 3 tt (plain (λ _. Hs.the-row)), tt))))))
 
   jambtulip-start-meets : Meets 𝓤 H A f.signature (WpFn 𝓤 H (𝓣 .C) (𝓣 .Λ) code.function) (f.spec 𝓤 H A mem run)
   jambtulip-start-meets = walk-meets 𝓤 H A f.ended stayed W goes (f.clauses 𝓤 H A mem run) (WpFn 𝓤 H (𝓣 .C) (𝓣 .Λ) code.function) (WpFn-mono 𝓤 H (W .laws) 𝓣 code.function) jambtulip-start-walks

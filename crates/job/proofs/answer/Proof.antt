@@ -32,9 +32,9 @@ use denote.Signature.{plain, shrSliceOf}
 use Rattle.records.proofs.empty.Symbol as empty-def
 use Rattle.records.proofs.empty.Symbol.{name as #records·empty}
 use Rattle.records.proofs.empty.Met as empty-thm
-use Rattle.job.proofs.least.Symbol as least-def
-use Rattle.job.proofs.least.Symbol.{name as #job·least}
-use Rattle.job.proofs.least.Met as least-thm
+use Rattle.job.proofs.smaller.Symbol as smaller-def
+use Rattle.job.proofs.smaller.Symbol.{name as #job·smaller}
+use Rattle.job.proofs.smaller.Met as smaller-thm
 use Rattle.job.proofs.run_job.Symbol as run-def
 use Rattle.job.proofs.run_job.Symbol.{name as #job·run-job}
 use Rattle.job.proofs.run_job.Met as run-thm
@@ -42,14 +42,14 @@ use Rattle.job.proofs.answer.Key.{name as #job·answer}
 use Rattle.job.proofs.answer as f
 use Rattle.job.proofs.answer.Statement as stated
 use Rattle.job.proofs.answer.Code as code
-use Rattle.job.proofs.answer.Proof.Calls.{Passed, stayed, text-val, nodes-val, edges-val, opens-val, spares-val, args, vals, lfts, shares, EmptyC, LeastC, RunC, Post}
+use Rattle.job.proofs.answer.Proof.Calls.{Passed, stayed, text-val, nodes-val, edges-val, opens-val, spares-val, args, vals, lfts, shares, EmptyC, SmallerC, RunC, Post}
 use Rattle.job.proofs.answer.Proof.Walk.{same-locals, Taken, Runs, entered}
 mod Calls
 mod Walk
 
 module _ {M : Type 1} (𝓤 : URA M) (H : Heap 𝓤) (A : Atoms 𝓤) (W : Given 𝓤 H A) (mem : Memory → SProp 𝓤) (run : Routine → Fun 𝓤) (𝓣 : Tables 𝓤 H)
     (known-empty : Triple 𝓤 (𝓣 .C #records·empty) (EmptyC 𝓤 H A mem run))
-    (known-least : Triple 𝓤 (𝓣 .C #job·least) (LeastC 𝓤 H A mem run))
+    (known-smaller : Triple 𝓤 (𝓣 .C #job·smaller) (SmallerC 𝓤 H A mem run))
     (known-run : Triple 𝓤 (𝓣 .C #job·run-job) (RunC 𝓤 H A mem run)) where
   walk : (p : Passed) → ent 𝓤 (onEntry 𝓤 H A f.signature (lfts p) (shares p) (args p) (vals p)) (WpFn 𝓤 H (𝓣 .C) (𝓣 .Λ) code.function (text-val p ∷ nodes-val p ∷ edges-val p ∷ opens-val p ∷ spares-val p ∷ []) (Post 𝓤 H A mem run p))
   walk p =
@@ -60,7 +60,7 @@ module _ {M : Type 1} (𝓤 : URA M) (H : Heap 𝓤) (A : Atoms 𝓤) (W : Given
       -- [the edges; the numbers; the nodes; the text; κ₂; true; κ₁; κ₀]
       keep ! (7 ∷ 6 ∷ 4 ∷ 3 ∷ 2 ∷ 0 ∷ []) $
       enter ! (𝓣 .C) (𝓣 .Λ) code.function (text-val p ∷ nodes-val p ∷ edges-val p ∷ opens-val p ∷ spares-val p ∷ []) (Post 𝓤 H A mem run p) $
-      subst (λ (ls : List Local). Sq W (Taken 𝓤 H A W mem run p 𝓣 known-empty known-least known-run) (allocs ls (Runs 𝓤 H A W mem run p 𝓣 known-empty known-least known-run))) same-locals (entered 𝓤 H A W mem run p 𝓣 known-empty known-least known-run)
+      subst (λ (ls : List Local). Sq W (Taken 𝓤 H A W mem run p 𝓣 known-empty known-smaller known-run) (allocs ls (Runs 𝓤 H A W mem run p 𝓣 known-empty known-smaller known-run))) same-locals (entered 𝓤 H A W mem run p 𝓣 known-empty known-smaller known-run)
 
   -- the same at values that are variables: the prover looks at each of them many times
   walk-at : (κ₀ κ₁ κ₂ : Lft) (s₀ s₁ s₂ : Share) (ts ns es : RefT (List ℕ)) (x y : ℕ) → Room u8 (length (ts .now)) → Room u64 (length (ns .now)) → Room u64 (length (es .now)) → x < 2 ^ 64 → y < 2 ^ 64
@@ -108,5 +108,5 @@ answer-spec 𝓤 H 𝓜 𝓖 𝓡 =
     (tables 𝓤 H 𝓜 𝓡 code.env .C) (tables 𝓤 H 𝓜 𝓡 code.env .Λ) #job·answer code.function (code.unfolded 𝓤 H 𝓜 𝓡)
     (answer-meets 𝓤 H (𝓖 .A) (givenOf 𝓤 H 𝓜 𝓖) (𝓜 .mem) (𝓡 .run) (tablesOf 𝓤 H 𝓜 (tables 𝓤 H 𝓜 𝓡 code.env))
     (cited 𝓤 H (EmptyC 𝓤 H (𝓖 .A) (𝓜 .mem) (𝓡 .run)) 𝓜 𝓡 code.env #records·empty empty-def.routine code.calls-records·empty (empty-thm.met 𝓤 H 𝓜 𝓖 𝓡))
-    (cited 𝓤 H (LeastC 𝓤 H (𝓖 .A) (𝓜 .mem) (𝓡 .run)) 𝓜 𝓡 code.env #job·least least-def.routine code.calls-job·least (least-thm.met 𝓤 H 𝓜 𝓖 𝓡))
+    (cited 𝓤 H (SmallerC 𝓤 H (𝓖 .A) (𝓜 .mem) (𝓡 .run)) 𝓜 𝓡 code.env #job·smaller smaller-def.routine code.calls-job·smaller (smaller-thm.met 𝓤 H 𝓜 𝓖 𝓡))
     (cited 𝓤 H (RunC 𝓤 H (𝓖 .A) (𝓜 .mem) (𝓡 .run)) 𝓜 𝓡 code.env #job·run-job run-def.routine code.calls-job·run-job (run-thm.met 𝓤 H 𝓜 𝓖 𝓡)))

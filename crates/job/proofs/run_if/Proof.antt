@@ -55,6 +55,7 @@ use Rattle.job.specs.Answered.{leftRead, runs, unreadOf, leftIf}
 use Rattle.job_text.proofs.ReadJob as R
 use Rattle.job_text.proofs.ReadJob.Laws as R′
 use Rattle.job.proofs.Rows.{read-makes, read-typed}
+use Rattle.job.proofs.Last.{Last, heldAt}
 use Rattle.job.proofs.Steps.{few-run, one-ran, none-ran}
 use Rattle.job.proofs.is_run as g
 use Rattle.job.proofs.is_run.Symbol as g-def
@@ -103,13 +104,6 @@ refR = tyRef erased mut (pointee (T.the-row .written))
 
 abbrev sliceR : Ty
 sliceR = sliceTy refR
-
--- the last lists of the mutable slices, and nothing of what was read
-abbrev Last : Type 0
-Last = Unit {0} × (List ℕ × (List ℕ × (List Record × (List Record × Unit {0}))))
-
-abbrev heldAt : Last → Held
-heldAt zs = heldIn (places (zs .1 .1 .1 .0)) (zs .1 .0) (zs .1 .1 .0) (places (zs .1 .1 .1 .1 .0))
 
 module _ {M : Type 1} (𝓤 : URA M) (H : Heap 𝓤) (A : Atoms 𝓤) (mem : Memory → SProp 𝓤) (run : Routine → Fun 𝓤) where
   abbrev IsRun : Contract 𝓤

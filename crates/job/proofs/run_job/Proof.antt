@@ -57,6 +57,7 @@ use Rattle.job.specs.Answered.{runs, leftIf, Writable, Answers, Leaves}
 use Rattle.job_text.proofs.ReadJob as R
 use Rattle.job_text.proofs.ReadJob.Laws as R′
 use Rattle.job.proofs.Rows.{read-makes, read-typed, output-makes, output-typed}
+use Rattle.job.proofs.Last.{Last, heldAt}
 use Rattle.job.proofs.Steps.{writable}
 use Rattle.job.proofs.Answering.{answers, leaves}
 use Rattle.job_text.proofs.read as g
@@ -109,13 +110,6 @@ refR = tyRef erased mut (pointee (T.the-row .written))
 
 abbrev sliceR : Ty
 sliceR = sliceTy refR
-
--- the last lists of the mutable slices, and nothing of what was read
-abbrev Last : Type 0
-Last = Unit {0} × (List ℕ × (List ℕ × (List Record × (List Record × Unit {0}))))
-
-abbrev heldAt : Last → Held
-heldAt zs = heldIn (places (zs .1 .1 .1 .0)) (zs .1 .0) (zs .1 .1 .0) (places (zs .1 .1 .1 .1 .0))
 
 module _ {M : Type 1} (𝓤 : URA M) (H : Heap 𝓤) (A : Atoms 𝓤) (mem : Memory → SProp 𝓤) (run : Routine → Fun 𝓤) where
   abbrev ReadC : Contract 𝓤

@@ -4,45 +4,34 @@ use borrow.Author.Needs.{needs}
 use Rattle.layers.proofs.Stored.{named-once, named-none, named-newest}
 use Rattle.layers.proofs.name_last.Statement.{statement}
 use Rattle.layers.proofs.name_last.Tie as tie
-use Rattle.layers.proofs.name_last.Reads as reads
-use Rattle.layers.proofs.name_last.Lts as lts
 
 enum-told : tie.Need-enum-told
 enum-told c = search needs
 
--- src/lib.rt:52:9
 enum-told-2 : tie.Need-enum-told-2
 enum-told-2 c = search needs
 
--- src/lib.rt:52:9
 returns : tie.Need-returns
 returns c = named-once _ _ _ _ (c .enum-told2 .given .1)
 
--- src/lib.rt:55:9
 returns-2 : tie.Need-returns-2
 returns-2 c = named-none (c .before .before .before .args .t1) (c .before .before .before .args .last) (c .before .enum-told .given .1) (c .if1 .taken)
 
--- src/lib.rt:57:18
 sub-newest : tie.Need-sub-newest
 sub-newest c = search needs
 
--- src/lib.rt:58:17
 mul-t5 : tie.Need-mul-t5
 mul-t5 c = search needs
 
--- src/lib.rt:58:17
 element-copy-out-t9 : tie.Need-element-copy-out-t9
 element-copy-out-t9 c = search needs
 
--- src/lib.rt:58:33
 mul-t10 : tie.Need-mul-t10
 mul-t10 c = search needs
 
--- src/lib.rt:58:33
 element-copy-out-t13 : tie.Need-element-copy-out-t13
 element-copy-out-t13 c = search needs
 
--- src/lib.rt:47:1
 returns-3 : tie.Need-returns-3
 returns-3 c = let e = c .before .before in
     named-newest (e .before .before .before .args .t1) (e .before .before .before .args .last) (e .before .enum-told .given .1) (omega (arith, e .if1 .left))

@@ -1,12 +1,10 @@
+-- `none` meets its contract: 65 places of 0 each, none of them stored.
 use mathlib.Core.Path.{refl}
 use Rattle.layers.specs.Stored.{stored, firstOnes}
 use Rattle.layers.proofs.Stored.{zeros}
 use Rattle.layers.proofs.none.Statement.{statement}
 use Rattle.layers.proofs.none.Tie as tie
-use Rattle.layers.proofs.none.Reads as reads
-use Rattle.layers.proofs.none.Lts as lts
 
--- src/lib.rt:16:1
 returns : tie.Need-returns
 unfolding stored firstOnes
 returns c = (record { from-sized = refl; to-sized = refl; from-clear = λ i h. zeros 65 i; to-clear = λ i h. zeros 65 i }, (refl, refl))

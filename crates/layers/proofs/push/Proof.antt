@@ -1,4 +1,4 @@
-use lib.ListN.{length-set}
+-- `push` meets its contract: the new layer is written behind those that are stored, which stay.
 use mathlib.Core.Path.{refl}
 use native.Mathlib.Numerals.{add-one}
 use native.Mathlib.Omega.{arith}
@@ -7,30 +7,22 @@ use Rattle.layers.proofs.Stored.{one-more, push-sized}
 use borrow.Author.Needs.{needs}
 use Rattle.layers.proofs.push.Statement.{statement}
 use Rattle.layers.proofs.push.Tie as tie
-use Rattle.layers.proofs.push.Reads as reads
-use Rattle.layers.proofs.push.Lts as lts
 
--- src/lib.rt:29:5
 mul-out : tie.Need-mul-out
 mul-out c = search needs
 
--- src/lib.rt:29:5
 element-write-out : tie.Need-element-write-out
 element-write-out c = search needs
 
--- src/lib.rt:30:5
 mul-out-2 : tie.Need-mul-out-2
 mul-out-2 c = search needs
 
--- src/lib.rt:30:5
 element-write-out-2 : tie.Need-element-write-out-2
 element-write-out-2 c = search needs
 
--- src/lib.rt:31:17
 add-out : tie.Need-add-out
 add-out c = search needs
 
--- src/lib.rt:23:1
 returns : tie.Need-returns
 unfolding stored
 returns c =

@@ -5,7 +5,8 @@ use mathlib.Core.Path.{_≡_, refl}
 use lib.ListN.{length, length-set}
 use lib.Seq.{paste, paste-zero}
 use borrow.Author.Needs.{needs}
-use Rattle.page_text.proofs.Putting.{copy-turn, copy-done}
+use Rattle.numbers.proofs.Copying.{copy-turn}
+use Rattle.page_text.proofs.Putting.{copy-done}
 use Rattle.page_text.proofs.put.Statement.{statement}
 use Rattle.page_text.proofs.put.Tie as tie
 

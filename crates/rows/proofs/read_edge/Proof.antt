@@ -1,71 +1,54 @@
+-- `rows::read_edge` meets its contract: the five words that it reads are the row's.
 use borrow.Author.Needs.{needs}
 use Rattle.rows.proofs.Access.{edge-read}
 use Rattle.rows.proofs.read_edge.Statement.{statement}
 use Rattle.rows.proofs.read_edge.Tie as tie
-use Rattle.rows.proofs.read_edge.Reads as reads
-use Rattle.rows.proofs.read_edge.Lts as lts
 
--- src/lib.rt:104:14
 mul-at : tie.Need-mul-at
 mul-at c = search needs
 
--- src/lib.rt:106:22
 mul-t4 : tie.Need-mul-t4
 mul-t4 c = search needs
 
--- src/lib.rt:106:22
 shared-slice-read-t6 : tie.Need-shared-slice-read-t6
 shared-slice-read-t6 c = search needs
 
--- src/lib.rt:107:26
 add-t9 : tie.Need-add-t9
 add-t9 c = search needs
 
--- src/lib.rt:107:20
 mul-t10 : tie.Need-mul-t10
 mul-t10 c = search needs
 
--- src/lib.rt:107:20
 shared-slice-read-t12 : tie.Need-shared-slice-read-t12
 shared-slice-read-t12 c = search needs
 
--- src/lib.rt:108:25
 add-t15 : tie.Need-add-t15
 add-t15 c = search needs
 
--- src/lib.rt:108:19
 mul-t16 : tie.Need-mul-t16
 mul-t16 c = search needs
 
--- src/lib.rt:108:19
 shared-slice-read-t18 : tie.Need-shared-slice-read-t18
 shared-slice-read-t18 c = search needs
 
--- src/lib.rt:109:21
 add-t19 : tie.Need-add-t19
 add-t19 c = search needs
 
--- src/lib.rt:109:15
 mul-t20 : tie.Need-mul-t20
 mul-t20 c = search needs
 
--- src/lib.rt:109:15
 shared-slice-read-t22 : tie.Need-shared-slice-read-t22
 shared-slice-read-t22 c = search needs
 
--- src/lib.rt:110:26
 add-t23 : tie.Need-add-t23
 add-t23 c = search needs
 
--- src/lib.rt:110:20
 mul-t24 : tie.Need-mul-t24
 mul-t24 c = search needs
 
--- src/lib.rt:110:20
 shared-slice-read-t26 : tie.Need-shared-slice-read-t26
 shared-slice-read-t26 c = search needs
 
--- src/lib.rt:100:1
 returns : tie.Need-returns
 returns c = edge-read _ _
 

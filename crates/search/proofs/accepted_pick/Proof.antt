@@ -4,11 +4,11 @@ use Rattle.search.proofs.Answers.{pick-accepted}
 use Rattle.search.proofs.accepted_pick.Statement.{statement}
 use Rattle.search.proofs.accepted_pick.Tie as tie
 
-counted-requires : tie.Need-counted-requires
-counted-requires c κs = search needs
+one-pick-more-requires : tie.Need-one-pick-more-requires
+one-pick-more-requires c κs = search needs
 
 returns : tie.Need-returns
-returns c = pick-accepted _ _ (c .counted .ensures)
+returns c = pick-accepted _ _ (c .one-pick-more .ensures)
 
 pub accepted-pick-spec : {M : Type 1} → statement M
-accepted-pick-spec = tie.close (tie.spec counted-requires returns)
+accepted-pick-spec = tie.close (tie.spec one-pick-more-requires returns)

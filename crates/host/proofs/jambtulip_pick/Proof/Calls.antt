@@ -26,8 +26,8 @@ use denote.Triple.Clauses.{ensured, lasts}
 use denote.Triple.Spec.{tripleOf}
 use Rattle.border.specs.declared.Terms.{Terms}
 use Rattle.border.proofs.Terms as Te
-use Rattle.border.specs.declared.Held.{Held}
-use Rattle.border.proofs.Held as He
+use Rattle.border.specs.declared.HostSearch.{HostSearch}
+use Rattle.border.proofs.HostSearch as Hs
 use Rattle.search.specs.declared.Ask.{Ask}
 use Rattle.search.proofs.Ask as K
 use Rattle.search.specs.declared.Search.{Search}
@@ -36,12 +36,12 @@ use Rattle.search.specs.declared.Picked.{Picked}
 use Rattle.search.proofs.Picked as P
 use Rattle.records.specs.declared.Record.{Record}
 use Rattle.records.proofs.Record as T
-use Rattle.border.proofs.Rows.{terms-makes, held-makes}
+use Rattle.border.proofs.Rows.{terms-makes, host-search-makes}
 use Rattle.pick.proofs.Rows.{ask-makes, search-makes, picked-makes}
 use Rattle.records.specs.Structs.{places}
 use Rattle.search.specs.Held.{searchOf}
 use Rattle.pick.specs.Picks.{askedIn, heldIn, Picks}
-use Rattle.border.specs.Border.{numberOf, askIn, searchIn, heldAfter}
+use Rattle.border.specs.Border.{numberOf, askIn, searchIn, hostSearchAfter}
 use Rattle.searches.specs.Pick as Def
 use Rattle.border.proofs.ask_in as ask-in
 use Rattle.border.proofs.ask_in.Symbol.{name as #asked}
@@ -81,7 +81,7 @@ pub record Passed : Type 0 where
   pub block : ℕ
   pub offset : ℕ
   pub name : GName
-  pub old : Held
+  pub old : HostSearch
   pub terms-val : Val
   pub weights-room : Room u64 (length (weights .now))
   pub profits-room : Room u64 (length (profits .now))
@@ -160,7 +160,7 @@ module _ (p : Passed) where
 -- the lent struct's machine value when it is opened
 pub record Lent (p : Passed) : Type 0 where
   pub val : Val
-  pub is : Is He.the-row (p .old) (val ∷ [])
+  pub is : Is Hs.the-row (p .old) (val ∷ [])
 
 -- what `ask_in` gives, with its machine value
 pub record Asked (p : Passed) : Type 0 where
@@ -193,10 +193,10 @@ pub record Answered (p : Passed) (asked : Asked p) (turned : Turned p) : Type 0 
 
 -- what `after_pick` gives, with its machine value
 pub record Stored (p : Passed) (asked : Asked p) (turned : Turned p) (picked : Answered p asked turned) : Type 0 where
-  pub value : Held
+  pub value : HostSearch
   pub val : Val
-  pub is : Is He.the-row value (val ∷ [])
-  pub told : value ≡ heldAfter (picked .value .verdict) (picked .value .search) (p .old)
+  pub is : Is Hs.the-row value (val ∷ [])
+  pub told : value ≡ hostSearchAfter (picked .value .verdict) (picked .value .search) (p .old)
 
 -- what `pick_number` gives, with its machine value
 pub record Numbered (p : Passed) (asked : Asked p) (turned : Turned p) (picked : Answered p asked turned) : Type 0 where
@@ -220,7 +220,7 @@ module _ {M : Type 1} (𝓤 : URA M) (H : Heap 𝓤) (A : Atoms 𝓤) (mem : Mem
       qed W (‵ ftrue ∷ []) ∵ nothing ! $ owned ! Te.the-row (Is Te.the-row) (terms-makes 𝓤 H A) (p .terms) (p .terms-val ∷ []) (p .terms-is) $ fjoin ! $ move ! (1 ∷ 0 ∷ []) $ join ! $ frame ! $ done !
 
   module _ (lent : Lent p) where
-    abbrev pub turned-args : Held × Unit {0}
+    abbrev pub turned-args : HostSearch × Unit {0}
     turned-args = (p .old, tt)
 
     abbrev pub to-turned : SearchC 𝓤 H A mem run .Ghost
@@ -231,7 +231,7 @@ module _ {M : Type 1} (𝓤 : URA M) (H : Heap 𝓤) (A : Atoms 𝓤) (mem : Mem
 
     pub goes-turned : Given 𝓤 H A → ent 𝓤 (⋆ 𝓤 H A (‵ ftrue ∷ [])) (SearchC 𝓤 H A mem run .pre to-turned)
     goes-turned W =
-        qed W (‵ ftrue ∷ []) ∵ nothing ! $ owned ! He.the-row (Is He.the-row) (held-makes 𝓤 H A) (p .old) (lent .val ∷ []) (lent .is) $ fjoin ! $ move ! (1 ∷ 0 ∷ []) $ join ! $ frame ! $ done !
+        qed W (‵ ftrue ∷ []) ∵ nothing ! $ owned ! Hs.the-row (Is Hs.the-row) (host-search-makes 𝓤 H A) (p .old) (lent .val ∷ []) (lent .is) $ fjoin ! $ move ! (1 ∷ 0 ∷ []) $ join ! $ frame ! $ done !
 
   module _ (asked : Asked p) (turned : Turned p) where
     abbrev pub picked-args : RefT (List ℕ) × (RefT (List ℕ) × (RefT (List ℕ) × (RefT (List ℕ) × (RefT (List Record) × (RefT (List Record) × (Ask × (ℕ × (Search × Unit {0}))))))))
@@ -245,18 +245,18 @@ module _ {M : Type 1} (𝓤 : URA M) (H : Heap 𝓤) (A : Atoms 𝓤) (mem : Mem
         qed W (‵ (flft (p .κ₀) (p .q₀)) ∷ ‵ (flft (p .κ₁) (p .q₁)) ∷ ‵ (flft (p .κ₂) (p .q₂)) ∷ ‵ (flft (p .κ₃) (p .q₃)) ∷ ‵ (flft (p .κ₄) (p .q₄)) ∷ ‵ (flft (p .κ₅) (p .q₅)) ∷ ‵ (Weights-owned p) ∷ ‵ (Profits-owned p) ∷ ‵ (Nodes-owned p) ∷ ‵ (Edges-owned p) ∷ ‵ (List-owned p) ∷ ‵ (Scratch-owned p) ∷ []) ∵ nothing ! $ move ! (6 ∷ 0 ∷ []) $ join ! $ move ! (5 ∷ 0 ∷ []) $ join ! $ move ! (4 ∷ 0 ∷ []) $ join ! $ move ! (3 ∷ 0 ∷ []) $ join ! $ move ! (2 ∷ 0 ∷ []) $ join ! $ move ! (1 ∷ 0 ∷ []) $ join ! $ nothing ! $ owned ! S.the-row (Is S.the-row) (search-makes 𝓤 H A) (turned .value) (turned .val ∷ []) (turned .is) $ fjoin ! $ owned ! usize (Is usize) (uint-makes 𝓤 H A W w64) (p .place) (vint w64 (p .place) ∷ []) (refl, p .place-fits) $ fjoin ! $ owned ! K.the-row (Is K.the-row) (ask-makes 𝓤 H A) (asked .value) (asked .val ∷ []) (asked .is) $ fjoin ! $ move ! (7 ∷ 0 ∷ []) $ fjoin ! $ move ! (6 ∷ 0 ∷ []) $ fjoin ! $ move ! (5 ∷ 0 ∷ []) $ fjoin ! $ move ! (4 ∷ 0 ∷ []) $ fjoin ! $ move ! (3 ∷ 0 ∷ []) $ fjoin ! $ move ! (2 ∷ 0 ∷ []) $ fjoin ! $ move ! (1 ∷ 0 ∷ []) $ join ! $ frame ! $ done !
 
   module _ (lent : Lent p) (asked : Asked p) (turned : Turned p) (picked : Answered p asked turned) where
-    abbrev pub stored-args : Picked × (Held × Unit {0})
+    abbrev pub stored-args : Picked × (HostSearch × Unit {0})
     stored-args = (picked .value, (p .old, tt))
 
     abbrev pub to-stored : AfterC 𝓤 H A mem run .Ghost
     to-stored = ((tt, tt, tt, stored-args, (picked .val ∷ [], (lent .val ∷ [], tt))), tt)
 
-    pub told-stored : (z : Held) → ent 𝓤 (ensured 𝓤 H A after-pick.ended (after-pick.clauses 𝓤 H A mem run) tt stored-args tt z) (fact 𝓤 (z ≡ heldAfter (picked .value .verdict) (picked .value .search) (p .old)))
-    told-stored z = exE 𝓤 _ (λ ws. snd∗ 𝓤 (sem 𝓤 H A (lasts after-pick.ended tt stored-args ws)) (fact 𝓤 (z ≡ heldAfter (picked .value .verdict) (picked .value .search) (p .old))))
+    pub told-stored : (z : HostSearch) → ent 𝓤 (ensured 𝓤 H A after-pick.ended (after-pick.clauses 𝓤 H A mem run) tt stored-args tt z) (fact 𝓤 (z ≡ hostSearchAfter (picked .value .verdict) (picked .value .search) (p .old)))
+    told-stored z = exE 𝓤 _ (λ ws. snd∗ 𝓤 (sem 𝓤 H A (lasts after-pick.ended tt stored-args ws)) (fact 𝓤 (z ≡ hostSearchAfter (picked .value .verdict) (picked .value .search) (p .old))))
 
     pub goes-stored : Given 𝓤 H A → ent 𝓤 (⋆ 𝓤 H A (‵ ftrue ∷ [])) (AfterC 𝓤 H A mem run .pre to-stored)
     goes-stored W =
-        qed W (‵ ftrue ∷ []) ∵ nothing ! $ owned ! He.the-row (Is He.the-row) (held-makes 𝓤 H A) (p .old) (lent .val ∷ []) (lent .is) $ fjoin ! $ owned ! P.the-row (Is P.the-row) (picked-makes 𝓤 H A) (picked .value) (picked .val ∷ []) (picked .is) $ fjoin ! $ move ! (1 ∷ 0 ∷ []) $ join ! $ frame ! $ done !
+        qed W (‵ ftrue ∷ []) ∵ nothing ! $ owned ! Hs.the-row (Is Hs.the-row) (host-search-makes 𝓤 H A) (p .old) (lent .val ∷ []) (lent .is) $ fjoin ! $ owned ! P.the-row (Is P.the-row) (picked-makes 𝓤 H A) (picked .value) (picked .val ∷ []) (picked .is) $ fjoin ! $ move ! (1 ∷ 0 ∷ []) $ join ! $ frame ! $ done !
 
   module _ (asked : Asked p) (turned : Turned p) (picked : Answered p asked turned) where
     abbrev pub number-args : Picked × Unit {0}

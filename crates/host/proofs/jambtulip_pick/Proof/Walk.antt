@@ -36,9 +36,9 @@ use Rattle.host.proofs.Walking.{word, reads, writes, word-ref, word-sli
 use Rattle.border.specs.declared.Terms.{Terms}
 use Rattle.border.proofs.Terms as Te
 use Rattle.border.proofs.Terms.Laws as Te′
-use Rattle.border.specs.declared.Held.{Held}
-use Rattle.border.proofs.Held as He
-use Rattle.border.proofs.Held.Laws as He′
+use Rattle.border.specs.declared.HostSearch.{HostSearch}
+use Rattle.border.proofs.HostSearch as Hs
+use Rattle.border.proofs.HostSearch.Laws as Hs′
 use Rattle.search.proofs.Ask as K
 use Rattle.search.proofs.Ask.Laws as K′
 use Rattle.search.proofs.Search as S
@@ -48,12 +48,12 @@ use Rattle.search.proofs.Picked as P
 use Rattle.search.proofs.Picked.Laws as P′
 use Rattle.records.specs.declared.Record.{Record}
 use Rattle.records.proofs.Record as T
-use Rattle.border.proofs.Rows.{terms-typed, held-value, held-tells, held-makes, held-typed}
+use Rattle.border.proofs.Rows.{terms-typed, host-search-value, host-search-tells, host-search-makes, host-search-typed}
 use Rattle.pick.proofs.Rows.{ask-typed, search-typed, picked-typed}
 use Rattle.records.specs.Structs.{places}
 use Rattle.search.specs.Held.{searchOf}
 use Rattle.pick.specs.Picks.{askedIn, Picks}
-use Rattle.border.specs.Border.{numberOf, askIn, searchIn, heldAfter}
+use Rattle.border.specs.Border.{numberOf, askIn, searchIn, hostSearchAfter}
 use Rattle.host.specs.Promises.{PicksFor}
 use Rattle.host.proofs.Kept.{picks-for}
 use Rattle.searches.specs.Pick as Def
@@ -69,23 +69,23 @@ use Rattle.host.proofs.jambtulip_pick.Proof.Calls.{Passed, Known, Lent,
 
 -- of what is only read nothing is kept to the end; a list or table is given up, with its last content told; the lent struct is still had
 abbrev pub stayed : Stays (f.ended .signature .params) (f.ended .kept)
-stayed = (stay-dropped (shrSliceOf (0 ∷ []) tt (plain (λ _. u64))) yes, (stay-dropped (shrSliceOf (1 ∷ []) tt (plain (λ _. u64))) yes, (gave-slice (2 ∷ []) tt (plain (λ _. u64)), (gave-slice (3 ∷ []) tt (plain (λ _. u64)), (gave-slice (4 ∷ []) tt (plain (λ _. T.the-row)), (gave-slice (5 ∷ []) tt (plain (λ _. T.the-row)), (stay-dropped (plain (λ _. Te.the-row)) yes, (stay-dropped (plain (λ _. usize)) yes, (stay-ref (6 ∷ []) tt (plain (λ _. He.the-row)), tt)))))))))
+stayed = (stay-dropped (shrSliceOf (0 ∷ []) tt (plain (λ _. u64))) yes, (stay-dropped (shrSliceOf (1 ∷ []) tt (plain (λ _. u64))) yes, (gave-slice (2 ∷ []) tt (plain (λ _. u64)), (gave-slice (3 ∷ []) tt (plain (λ _. u64)), (gave-slice (4 ∷ []) tt (plain (λ _. T.the-row)), (gave-slice (5 ∷ []) tt (plain (λ _. T.the-row)), (stay-dropped (plain (λ _. Te.the-row)) yes, (stay-dropped (plain (λ _. usize)) yes, (stay-ref (6 ∷ []) tt (plain (λ _. Hs.the-row)), tt)))))))))
 
 abbrev lent-struct : Ty
-lent-struct = tyRef (named 6) mut (pointee (He.the-row .written))
+lent-struct = tyRef (named 6) mut (pointee (Hs.the-row .written))
 
 -- the locals as they are written here, which are the function's
 abbrev pub locals : List Local
-locals = local word valueLocal ∷ local (reads 0 u64) valueLocal ∷ local (reads 1 u64) valueLocal ∷ local (writes 2 u64) valueLocal ∷ local (writes 3 u64) valueLocal ∷ local (writes 4 T.the-row) valueLocal ∷ local (writes 5 T.the-row) valueLocal ∷ local Te′.mir valueLocal ∷ local word valueLocal ∷ local lent-struct valueLocal ∷ local He′.mir valueLocal ∷ local K′.mir valueLocal ∷ local S′.mir valueLocal ∷ local P′.mir valueLocal ∷ local He′.mir valueLocal ∷ local word-ref valueLocal ∷ local word-slice valueLocal ∷ local word-ref valueLocal ∷ local word-slice valueLocal ∷ local record-ref valueLocal ∷ local record-slice valueLocal ∷ local record-ref valueLocal ∷ local record-slice valueLocal ∷ []
+locals = local word valueLocal ∷ local (reads 0 u64) valueLocal ∷ local (reads 1 u64) valueLocal ∷ local (writes 2 u64) valueLocal ∷ local (writes 3 u64) valueLocal ∷ local (writes 4 T.the-row) valueLocal ∷ local (writes 5 T.the-row) valueLocal ∷ local Te′.mir valueLocal ∷ local word valueLocal ∷ local lent-struct valueLocal ∷ local Hs′.mir valueLocal ∷ local K′.mir valueLocal ∷ local S′.mir valueLocal ∷ local P′.mir valueLocal ∷ local Hs′.mir valueLocal ∷ local word-ref valueLocal ∷ local word-slice valueLocal ∷ local word-ref valueLocal ∷ local word-slice valueLocal ∷ local record-ref valueLocal ∷ local record-slice valueLocal ∷ local record-ref valueLocal ∷ local record-slice valueLocal ∷ []
 
 pub same-locals : locals ≡ code.function .locals
 same-locals = refl
 
 module _ (p : Passed) where
-  abbrev pub ref : Held → RefT Held
+  abbrev pub ref : HostSearch → RefT HostSearch
   ref s = record { ptr = (p .block, p .offset); name = p .name; now = s }
 
-  abbrev pub args : RefT (List ℕ) × (RefT (List ℕ) × (RefT (List ℕ) × (RefT (List ℕ) × (RefT (List Record) × (RefT (List Record) × (Terms × (ℕ × (RefT Held × Unit {0}))))))))
+  abbrev pub args : RefT (List ℕ) × (RefT (List ℕ) × (RefT (List ℕ) × (RefT (List ℕ) × (RefT (List Record) × (RefT (List Record) × (Terms × (ℕ × (RefT HostSearch × Unit {0}))))))))
   args = (p .weights, (p .profits, (p .nodes, (p .edges, (p .list, (p .scratch, (p .terms, (p .place, (ref (p .old), tt)))))))))
 
   abbrev pub passed-vals : List Val
@@ -111,18 +111,18 @@ module _ {M : Type 1} (𝓤 : URA M) (p : Passed) where
   abbrev pub Finals : List ℕ → List ℕ → List Record → List Record → List (Item 𝓤) → List (Item 𝓤)
   Finals ns es rs xs Γ = ‵ (finally u64 (p .nodes .name) ns) ∷ ‵ (finally u64 (p .edges .name) es) ∷ ‵ (finally T.the-row (p .list .name) rs) ∷ ‵ (finally T.the-row (p .scratch .name) xs) ∷ Γ
 
-  abbrev pub Shut : Held → List (Item 𝓤) → List (Item 𝓤)
-  Shut s Γ = lent-shut He.the-row (p .κ₆) (p .q₆) (p .block) (p .offset) (p .name) s Γ
+  abbrev pub Shut : HostSearch → List (Item 𝓤) → List (Item 𝓤)
+  Shut s Γ = lent-shut Hs.the-row (p .κ₆) (p .q₆) (p .block) (p .offset) (p .name) s Γ
 
   abbrev pub Open : Val → List (Item 𝓤) → List (Item 𝓤)
-  Open v Γ = lent-open He.the-row (p .κ₆) (p .q₆) (p .block) (p .offset) (p .name) (p .old) v Γ
+  Open v Γ = lent-open Hs.the-row (p .κ₆) (p .q₆) (p .block) (p .offset) (p .name) (p .old) v Γ
 
 module _ {M : Type 1} (𝓤 : URA M) (H : Heap 𝓤) (A : Atoms 𝓤) (mem : Memory → SProp 𝓤) (run : Routine → Fun 𝓤) (p : Passed) where
   abbrev pub Post : Val → SProp 𝓤
   Post = walkOf 𝓤 H A f.ended stayed (f.clauses 𝓤 H A mem run) .post ((lfts p, parts p, tt, args p, vals p), tt)
 
   -- what it has at its end gives what its contract promises
-  exits : Given 𝓤 H A → (n : ℕ) (w : Val) (s : Held) (ns : List ℕ) (es : List ℕ) (rs : List Record) (xs : List Record) → Is u64 n (w ∷ []) → PicksFor (Def.pick (askedIn (p .weights .now) (p .profits .now) (askIn (p .terms)) (p .place)) (searchOf (searchIn (p .old))) (held p)) n (p .old) s ns es (places rs) (places xs) → length ns ≡ length (p .nodes .now) → length es ≡ length (p .edges .now) → length rs ≡ length (p .list .now) → length xs ≡ length (p .scratch .now) → ent 𝓤 (⋆ 𝓤 H A (Shut 𝓤 p s (Tokens 𝓤 p (Finals 𝓤 p ns es rs xs [])))) (Post w)
+  exits : Given 𝓤 H A → (n : ℕ) (w : Val) (s : HostSearch) (ns : List ℕ) (es : List ℕ) (rs : List Record) (xs : List Record) → Is u64 n (w ∷ []) → PicksFor (Def.pick (askedIn (p .weights .now) (p .profits .now) (askIn (p .terms)) (p .place)) (searchOf (searchIn (p .old))) (held p)) n (p .old) s ns es (places rs) (places xs) → length ns ≡ length (p .nodes .now) → length es ≡ length (p .edges .now) → length rs ≡ length (p .list .now) → length xs ≡ length (p .scratch .now) → ent 𝓤 (⋆ 𝓤 H A (Shut 𝓤 p s (Tokens 𝓤 p (Finals 𝓤 p ns es rs xs [])))) (Post w)
   exits W n w s ns es rs xs is kept same-nodes same-edges same-list same-scratch =
       qed W (Shut 𝓤 p s (Tokens 𝓤 p (Finals 𝓤 p ns es rs xs []))) ∵
       suffices ! _ (ends-at 𝓤 H A f.ended stayed (f.clauses 𝓤 H A mem run) W ((lfts p, parts p, tt, args p, vals p), tt) w n (tt, (tt, (ns, (es, (rs, (xs, (tt, (tt, (s, tt))))))))) (tt, (tt, (same-nodes, (same-edges, (same-list, (same-scratch, (tt, (tt, (tt, tt)))))))))) $ says ! kept $
@@ -132,7 +132,7 @@ module _ {M : Type 1} (𝓤 : URA M) (H : Heap 𝓤) (A : Atoms 𝓤) (W : Given
     (l₀ l₁ l₂ l₃ l₄ l₅ l₆ l₇ l₈ l₉ l₁₀ l₁₁ l₁₂ l₁₃ l₁₄ l₁₅ l₁₆ l₁₇ l₁₈ l₁₉ l₂₀ l₂₁ l₂₂ : ℕ) where
   -- the locals after the result, and all of them
   abbrev pub E₁ : Env 𝓤 H
-  E₁ = ((reads 0 u64), l₁) ∷ ((reads 1 u64), l₂) ∷ ((writes 2 u64), l₃) ∷ ((writes 3 u64), l₄) ∷ ((writes 4 T.the-row), l₅) ∷ ((writes 5 T.the-row), l₆) ∷ (Te′.mir, l₇) ∷ (word, l₈) ∷ (lent-struct, l₉) ∷ (He′.mir, l₁₀) ∷ (K′.mir, l₁₁) ∷ (S′.mir, l₁₂) ∷ (P′.mir, l₁₃) ∷ (He′.mir, l₁₄) ∷ (word-ref, l₁₅) ∷ (word-slice, l₁₆) ∷ (word-ref, l₁₇) ∷ (word-slice, l₁₈) ∷ (record-ref, l₁₉) ∷ (record-slice, l₂₀) ∷ (record-ref, l₂₁) ∷ (record-slice, l₂₂) ∷ []
+  E₁ = ((reads 0 u64), l₁) ∷ ((reads 1 u64), l₂) ∷ ((writes 2 u64), l₃) ∷ ((writes 3 u64), l₄) ∷ ((writes 4 T.the-row), l₅) ∷ ((writes 5 T.the-row), l₆) ∷ (Te′.mir, l₇) ∷ (word, l₈) ∷ (lent-struct, l₉) ∷ (Hs′.mir, l₁₀) ∷ (K′.mir, l₁₁) ∷ (S′.mir, l₁₂) ∷ (P′.mir, l₁₃) ∷ (Hs′.mir, l₁₄) ∷ (word-ref, l₁₅) ∷ (word-slice, l₁₆) ∷ (word-ref, l₁₇) ∷ (word-slice, l₁₈) ∷ (record-ref, l₁₉) ∷ (record-slice, l₂₀) ∷ (record-ref, l₂₁) ∷ (record-slice, l₂₂) ∷ []
 
   abbrev pub E : Env 𝓤 H
   E = (word, l₀) ∷ E₁
@@ -150,7 +150,7 @@ module _ {M : Type 1} (𝓤 : URA M) (H : Heap 𝓤) (A : Atoms 𝓤) (W : Given
   -- the number is in its local
   module _ (lent : Lent p) (asked : Asked p) (turned : Turned p) (picked : Answered p asked turned) (stored : Stored p asked turned picked) (number : Numbered p asked turned picked) where
     abbrev Returning : List (Item 𝓤)
-    Returning = Shut 𝓤 p (stored .value) (Tokens 𝓤 p (Finals 𝓤 p (picked .ns) (picked .es) (picked .rs) (picked .xs) (Cells (holds word l₀ (number .val)) (holds He′.mir l₁₀ (lent .val)) (holds K′.mir l₁₁ (asked .val)) (holds S′.mir l₁₂ (turned .val)) (holds P′.mir l₁₃ (picked .val)) (holds He′.mir l₁₄ (stored .val)) Lent-again)))
+    Returning = Shut 𝓤 p (stored .value) (Tokens 𝓤 p (Finals 𝓤 p (picked .ns) (picked .es) (picked .rs) (picked .xs) (Cells (holds word l₀ (number .val)) (holds Hs′.mir l₁₀ (lent .val)) (holds K′.mir l₁₁ (asked .val)) (holds S′.mir l₁₂ (turned .val)) (holds P′.mir l₁₃ (picked .val)) (holds Hs′.mir l₁₄ (stored .val)) Lent-again)))
 
     pub returned : Sq W Returning (runs (𝓣 .C) (𝓣 .Λ) E pieces.t-16 (atRet E (Post 𝓤 H A mem run p)))
     returned =
@@ -161,7 +161,7 @@ module _ {M : Type 1} (𝓤 : URA M) (H : Heap 𝓤) (A : Atoms 𝓤) (W : Given
   -- it is stored
   module _ (lent : Lent p) (asked : Asked p) (turned : Turned p) (picked : Answered p asked turned) (stored : Stored p asked turned picked) where
     abbrev Storing : List (Item 𝓤)
-    Storing = Shut 𝓤 p (stored .value) (Tokens 𝓤 p (Finals 𝓤 p (picked .ns) (picked .es) (picked .rs) (picked .xs) (Cells (room word l₀) (holds He′.mir l₁₀ (lent .val)) (holds K′.mir l₁₁ (asked .val)) (holds S′.mir l₁₂ (turned .val)) (holds P′.mir l₁₃ (picked .val)) (holds He′.mir l₁₄ (stored .val)) Lent-again)))
+    Storing = Shut 𝓤 p (stored .value) (Tokens 𝓤 p (Finals 𝓤 p (picked .ns) (picked .es) (picked .rs) (picked .xs) (Cells (room word l₀) (holds Hs′.mir l₁₀ (lent .val)) (holds K′.mir l₁₁ (asked .val)) (holds S′.mir l₁₂ (turned .val)) (holds P′.mir l₁₃ (picked .val)) (holds Hs′.mir l₁₄ (stored .val)) Lent-again)))
 
     pub numbers : Sq W Storing (runs (𝓣 .C) (𝓣 .Λ) E pieces.t-15 (atRet E (Post 𝓤 H A mem run p)))
     numbers =
@@ -174,31 +174,31 @@ module _ {M : Type 1} (𝓤 : URA M) (H : Heap 𝓤) (A : Atoms 𝓤) (W : Given
   -- the search after it is made
   module _ (lent : Lent p) (asked : Asked p) (turned : Turned p) (picked : Answered p asked turned) (stored : Stored p asked turned picked) where
     abbrev Following : List (Item 𝓤)
-    Following = Open 𝓤 p (lent .val) (Tokens 𝓤 p (Finals 𝓤 p (picked .ns) (picked .es) (picked .rs) (picked .xs) (Cells (room word l₀) (holds He′.mir l₁₀ (lent .val)) (holds K′.mir l₁₁ (asked .val)) (holds S′.mir l₁₂ (turned .val)) (holds P′.mir l₁₃ (picked .val)) (holds He′.mir l₁₄ (stored .val)) Lent-again)))
+    Following = Open 𝓤 p (lent .val) (Tokens 𝓤 p (Finals 𝓤 p (picked .ns) (picked .es) (picked .rs) (picked .xs) (Cells (room word l₀) (holds Hs′.mir l₁₀ (lent .val)) (holds K′.mir l₁₁ (asked .val)) (holds S′.mir l₁₂ (turned .val)) (holds P′.mir l₁₃ (picked .val)) (holds Hs′.mir l₁₄ (stored .val)) Lent-again)))
 
     pub stores : Sq W Following (runs (𝓣 .C) (𝓣 .Λ) E pieces.t-14 (atRet E (Post 𝓤 H A mem run p)))
     stores =
-        assigns ! (of-opd ! (load ! (from ! (stop !)) (look ! 29 refl))) (from ! (hop ! (look ! 24 refl) (stop !))) (store-raw ! 0 refl (held-typed 𝓤 H A W (stored .value) (stored .val) (stored .is))) $
-        owned ! He.the-row (Is He.the-row) (held-makes 𝓤 H A) (stored .value) (stored .val ∷ []) (stored .is) $ move ! (1 ∷ 0 ∷ []) $ closes ! tt He.the-row (stored .value) (stored .val ∷ []) (p .block) (p .offset) $
+        assigns ! (of-opd ! (load ! (from ! (stop !)) (look ! 29 refl))) (from ! (hop ! (look ! 24 refl) (stop !))) (store-raw ! 0 refl (host-search-typed 𝓤 H A W (stored .value) (stored .val) (stored .is))) $
+        owned ! Hs.the-row (Is Hs.the-row) (host-search-makes 𝓤 H A) (stored .value) (stored .val ∷ []) (stored .is) $ move ! (1 ∷ 0 ∷ []) $ closes ! tt Hs.the-row (stored .value) (stored .val ∷ []) (p .block) (p .offset) $
         numbers lent asked turned picked stored
 
   -- the record is picked, or the pick refused
   module _ (lent : Lent p) (asked : Asked p) (turned : Turned p) (picked : Answered p asked turned) where
     abbrev Picking : List (Item 𝓤)
-    Picking = Open 𝓤 p (lent .val) (Tokens 𝓤 p (Finals 𝓤 p (picked .ns) (picked .es) (picked .rs) (picked .xs) (Cells (room word l₀) (holds He′.mir l₁₀ (lent .val)) (holds K′.mir l₁₁ (asked .val)) (holds S′.mir l₁₂ (turned .val)) (holds P′.mir l₁₃ (picked .val)) (room He′.mir l₁₄) Lent-again)))
+    Picking = Open 𝓤 p (lent .val) (Tokens 𝓤 p (Finals 𝓤 p (picked .ns) (picked .es) (picked .rs) (picked .xs) (Cells (room word l₀) (holds Hs′.mir l₁₀ (lent .val)) (holds K′.mir l₁₁ (asked .val)) (holds S′.mir l₁₂ (turned .val)) (holds P′.mir l₁₃ (picked .val)) (room Hs′.mir l₁₄) Lent-again)))
 
     pub follows : Sq W Picking (runs (𝓣 .C) (𝓣 .Λ) E pieces.t-13 (atRet E (Post 𝓤 H A mem run p)))
     follows =
         nothing ! $ use1 W (raw (AfterC 𝓤 H A mem run .pre (to-stored 𝓤 H A mem run p lent asked turned picked))) (goes-stored 𝓤 H A mem run p lent asked turned picked W) $
         calls-at ! (fmOf 𝓤 H (W .laws) 𝓣) (AfterC 𝓤 H A mem run) (known .stored) (to-stored 𝓤 H A mem run p lent asked turned picked) (and-then ! (load ! (from ! (stop !)) (look ! 29 refl)) (and-then ! (load ! (from ! (stop !)) (look ! 26 refl)) (no-more !))) (λ v.
-        gives W He.the-row v (ensured 𝓤 H A after-pick.ended (after-pick.clauses 𝓤 H A mem run) tt (stored-args 𝓤 H A mem run p lent asked turned picked) tt) (λ x. x ≡ heldAfter (picked .value .verdict) (picked .value .search) (p .old)) (id⊢ 𝓤 _) (told-stored 𝓤 H A mem run p lent asked turned picked) (λ x told is.
-        land ! (from ! (stop !)) (init ! 29 refl (held-typed 𝓤 H A W x v is)) $
+        gives W Hs.the-row v (ensured 𝓤 H A after-pick.ended (after-pick.clauses 𝓤 H A mem run) tt (stored-args 𝓤 H A mem run p lent asked turned picked) tt) (λ x. x ≡ hostSearchAfter (picked .value .verdict) (picked .value .search) (p .old)) (id⊢ 𝓤 _) (told-stored 𝓤 H A mem run p lent asked turned picked) (λ x told is.
+        land ! (from ! (stop !)) (init ! 29 refl (host-search-typed 𝓤 H A W x v is)) $
         stores lent asked turned picked record { value = x; val = v; is = is; told = told }))
 
   -- what `pick` changes is lent again
   module _ (lent : Lent p) (asked : Asked p) (turned : Turned p) where
     abbrev Lending : List (Item 𝓤)
-    Lending = Open 𝓤 p (lent .val) (Tokens 𝓤 p (Slices 𝓤 p (Cells (room word l₀) (holds He′.mir l₁₀ (lent .val)) (holds K′.mir l₁₁ (asked .val)) (holds S′.mir l₁₂ (turned .val)) (room P′.mir l₁₃) (room He′.mir l₁₄) Lent-again)))
+    Lending = Open 𝓤 p (lent .val) (Tokens 𝓤 p (Slices 𝓤 p (Cells (room word l₀) (holds Hs′.mir l₁₀ (lent .val)) (holds K′.mir l₁₁ (asked .val)) (holds S′.mir l₁₂ (turned .val)) (room P′.mir l₁₃) (room Hs′.mir l₁₄) Lent-again)))
 
     pub picks : Sq W Lending (runs (𝓣 .C) (𝓣 .Λ) E pieces.t-12 (atRet E (Post 𝓤 H A mem run p)))
     picks =
@@ -222,7 +222,7 @@ module _ {M : Type 1} (𝓤 : URA M) (H : Heap 𝓤) (A : Atoms 𝓤) (W : Given
   -- the search is turned into the one that `pick` takes
   module _ (lent : Lent p) (asked : Asked p) (turned : Turned p) where
     abbrev Turning : List (Item 𝓤)
-    Turning = Open 𝓤 p (lent .val) (Tokens 𝓤 p (Slices 𝓤 p (Cells (room word l₀) (holds He′.mir l₁₀ (lent .val)) (holds K′.mir l₁₁ (asked .val)) (holds S′.mir l₁₂ (turned .val)) (room P′.mir l₁₃) (room He′.mir l₁₄) Empty)))
+    Turning = Open 𝓤 p (lent .val) (Tokens 𝓤 p (Slices 𝓤 p (Cells (room word l₀) (holds Hs′.mir l₁₀ (lent .val)) (holds K′.mir l₁₁ (asked .val)) (holds S′.mir l₁₂ (turned .val)) (room P′.mir l₁₃) (room Hs′.mir l₁₄) Empty)))
 
     pub lends : Sq W Turning (runs (𝓣 .C) (𝓣 .Λ) E pieces.t-4 (atRet E (Post 𝓤 H A mem run p)))
     lends =
@@ -239,7 +239,7 @@ module _ {M : Type 1} (𝓤 : URA M) (H : Heap 𝓤) (A : Atoms 𝓤) (W : Given
   -- what is asked is made
   module _ (lent : Lent p) (asked : Asked p) where
     abbrev Asking : List (Item 𝓤)
-    Asking = Open 𝓤 p (lent .val) (Tokens 𝓤 p (Slices 𝓤 p (Cells (room word l₀) (holds He′.mir l₁₀ (lent .val)) (holds K′.mir l₁₁ (asked .val)) (room S′.mir l₁₂) (room P′.mir l₁₃) (room He′.mir l₁₄) Empty)))
+    Asking = Open 𝓤 p (lent .val) (Tokens 𝓤 p (Slices 𝓤 p (Cells (room word l₀) (holds Hs′.mir l₁₀ (lent .val)) (holds K′.mir l₁₁ (asked .val)) (room S′.mir l₁₂) (room P′.mir l₁₃) (room Hs′.mir l₁₄) Empty)))
 
     pub turns : Sq W Asking (runs (𝓣 .C) (𝓣 .Λ) E pieces.t-3 (atRet E (Post 𝓤 H A mem run p)))
     turns =
@@ -252,7 +252,7 @@ module _ {M : Type 1} (𝓤 : URA M) (H : Heap 𝓤) (A : Atoms 𝓤) (W : Given
   -- it is copied
   module _ (lent : Lent p) where
     abbrev Copied : List (Item 𝓤)
-    Copied = Open 𝓤 p (lent .val) (Tokens 𝓤 p (Slices 𝓤 p (Cells (room word l₀) (holds He′.mir l₁₀ (lent .val)) (room K′.mir l₁₁) (room S′.mir l₁₂) (room P′.mir l₁₃) (room He′.mir l₁₄) Empty)))
+    Copied = Open 𝓤 p (lent .val) (Tokens 𝓤 p (Slices 𝓤 p (Cells (room word l₀) (holds Hs′.mir l₁₀ (lent .val)) (room K′.mir l₁₁) (room S′.mir l₁₂) (room P′.mir l₁₃) (room Hs′.mir l₁₄) Empty)))
 
     pub asks : Sq W Copied (runs (𝓣 .C) (𝓣 .Λ) E pieces.t-2 (atRet E (Post 𝓤 H A mem run p)))
     asks =
@@ -265,20 +265,20 @@ module _ {M : Type 1} (𝓤 : URA M) (H : Heap 𝓤) (A : Atoms 𝓤) (W : Given
   -- the search is open
   module _ (lent : Lent p) where
     abbrev Opened : List (Item 𝓤)
-    Opened = Open 𝓤 p (lent .val) (Tokens 𝓤 p (Slices 𝓤 p (Cells (room word l₀) (room He′.mir l₁₀) (room K′.mir l₁₁) (room S′.mir l₁₂) (room P′.mir l₁₃) (room He′.mir l₁₄) Empty)))
+    Opened = Open 𝓤 p (lent .val) (Tokens 𝓤 p (Slices 𝓤 p (Cells (room word l₀) (room Hs′.mir l₁₀) (room K′.mir l₁₁) (room S′.mir l₁₂) (room P′.mir l₁₃) (room Hs′.mir l₁₄) Empty)))
 
     pub copies : Sq W Opened (runs (𝓣 .C) (𝓣 .Λ) E pieces.t-1 (atRet E (Post 𝓤 H A mem run p)))
-    copies = assigns ! (of-opd ! (load ! (from ! (hop ! (look ! 26 refl) (stop !))) (look-raw ! 0 refl))) (from ! (stop !)) (init ! 27 refl (held-typed 𝓤 H A W (p .old) (lent .val) (lent .is))) $ asks lent
+    copies = assigns ! (of-opd ! (load ! (from ! (hop ! (look ! 26 refl) (stop !))) (look-raw ! 0 refl))) (from ! (stop !)) (init ! 27 refl (host-search-typed 𝓤 H A W (p .old) (lent .val) (lent .is))) $ asks lent
 
   -- the locals are there, the arguments are stored, and the lent struct is opened
   abbrev pub Entered : List (Item 𝓤)
-  Entered = Shut 𝓤 p (p .old) (Tokens 𝓤 p (Slices 𝓤 p (deaths 𝓤 H E ∷ room word l₀ ∷ room (reads 0 u64) l₁ ∷ room (reads 1 u64) l₂ ∷ room (writes 2 u64) l₃ ∷ room (writes 3 u64) l₄ ∷ room (writes 4 T.the-row) l₅ ∷ room (writes 5 T.the-row) l₆ ∷ room Te′.mir l₇ ∷ room word l₈ ∷ room lent-struct l₉ ∷ room He′.mir l₁₀ ∷ room K′.mir l₁₁ ∷ room S′.mir l₁₂ ∷ room P′.mir l₁₃ ∷ room He′.mir l₁₄ ∷ room word-ref l₁₅ ∷ room word-slice l₁₆ ∷ room word-ref l₁₇ ∷ room word-slice l₁₈ ∷ room record-ref l₁₉ ∷ room record-slice l₂₀ ∷ room record-ref l₂₁ ∷ room record-slice l₂₂ ∷ ‵ ftrue ∷ [])))
+  Entered = Shut 𝓤 p (p .old) (Tokens 𝓤 p (Slices 𝓤 p (deaths 𝓤 H E ∷ room word l₀ ∷ room (reads 0 u64) l₁ ∷ room (reads 1 u64) l₂ ∷ room (writes 2 u64) l₃ ∷ room (writes 3 u64) l₄ ∷ room (writes 4 T.the-row) l₅ ∷ room (writes 5 T.the-row) l₆ ∷ room Te′.mir l₇ ∷ room word l₈ ∷ room lent-struct l₉ ∷ room Hs′.mir l₁₀ ∷ room K′.mir l₁₁ ∷ room S′.mir l₁₂ ∷ room P′.mir l₁₃ ∷ room Hs′.mir l₁₄ ∷ room word-ref l₁₅ ∷ room word-slice l₁₆ ∷ room word-ref l₁₇ ∷ room word-slice l₁₈ ∷ room record-ref l₁₉ ∷ room record-slice l₂₀ ∷ room record-ref l₂₁ ∷ room record-slice l₂₂ ∷ ‵ ftrue ∷ [])))
 
   pub passed : Sq W Entered (passes E₁ (passed-vals p) (runs (𝓣 .C) (𝓣 .Λ) E pieces.t-1 (atRet E (Post 𝓤 H A mem run p))))
   passed =
       pass1 ! (init ! 17 refl (tt, (tt, (record { fits = p .weights-room .0 }, tt)))) $ pass1 ! (init ! 18 refl (tt, (tt, (record { fits = p .profits-room .0 }, tt)))) $ pass1 ! (init ! 19 refl (tt, (tt, (record { fits = p .nodes-room .0 }, tt)))) $ pass1 ! (init ! 20 refl (tt, (tt, (record { fits = p .edges-room .0 }, tt)))) $ pass1 ! (init ! 21 refl (tt, (tt, (record { fits = p .list-room .0 }, tt)))) $ pass1 ! (init ! 22 refl (tt, (tt, (record { fits = p .scratch-room .0 }, tt)))) $ pass1 ! (init ! 23 refl (terms-typed 𝓤 H A W (p .terms) (p .terms-val) (p .terms-is))) $ pass1 ! (init ! 24 refl (tt, record { fits = p .place-fits })) $ pass1 ! (init ! 25 refl (tt, tt)) $ pass0 ! $
-      opens ! tt He.the-row {h = p .old} (p .block) (p .offset) (λ vs. spelt ! He.the-row (Is He.the-row) (shows 𝓤 H A He.the-row) (λ x. held-value x ∷ []) held-tells fullShare (p .old) vs (p .block) (p .offset) $ move ! (1 ∷ []) $
-      facts ! He.the-row (Is He.the-row) (shows 𝓤 H A He.the-row) (p .old) (held-value (p .old) ∷ []) (λ is. copies (record { val = held-value (p .old); is = is })))
+      opens ! tt Hs.the-row {h = p .old} (p .block) (p .offset) (λ vs. spelt ! Hs.the-row (Is Hs.the-row) (shows 𝓤 H A Hs.the-row) (λ x. host-search-value x ∷ []) host-search-tells fullShare (p .old) vs (p .block) (p .offset) $ move ! (1 ∷ []) $
+      facts ! Hs.the-row (Is Hs.the-row) (shows 𝓤 H A Hs.the-row) (p .old) (host-search-value (p .old) ∷ []) (λ is. copies (record { val = host-search-value (p .old); is = is })))
 
 module _ {M : Type 1} (𝓤 : URA M) (H : Heap 𝓤) (A : Atoms 𝓤) (W : Given 𝓤 H A) (mem : Memory → SProp 𝓤) (run : Routine → Fun 𝓤) (p : Passed) (𝓣 : Tables 𝓤 H) (known : Known 𝓤 H A mem run 𝓣) where
   abbrev pub Taken : List (Item 𝓤)

@@ -50,7 +50,6 @@ use Rattle.border.proofs.Rows.{page-value, page-tells, page-makes, page-typed}
 use Rattle.pick.proofs.Rows.{picked-typed}
 use Rattle.job.proofs.Rows.{output-typed, read-typed}
 use Rattle.records.specs.Structs.{places}
-use Rattle.searches.specs.Pick.{Held}
 use Rattle.border.specs.Border.{numberOf, shownOf}
 use Rattle.host.specs.Promises.{RunsFor}
 use Rattle.host.proofs.Kept.{runs-for}
@@ -60,6 +59,7 @@ use Rattle.job_text.specs.Reads.{Reads}
 use Rattle.pick.specs.Picks.{heldIn}
 use Rattle.job_run.specs.Runs.{endingOf, leftIn}
 use Rattle.job.specs.Answered.{leftIf}
+use Rattle.job.proofs.Last.{Last, heldAt}
 use Rattle.job.proofs.Steps.{writable}
 use Rattle.job.specs.Answered.{runs as is-run}
 use Rattle.job_text.proofs.read as read
@@ -85,13 +85,6 @@ locals = local word valueLocal ∷ local (reads 0 u8) valueLocal ∷ local (writ
 
 pub same-locals : locals ≡ code.function .locals
 same-locals = refl
-
--- the last contents of tables and lists, as the contract of `run_if` tells them
-abbrev Last : Type 0
-Last = Unit {0} × (List ℕ × (List ℕ × (List Record × (List Record × Unit {0}))))
-
-abbrev held-at : Last → Held
-held-at ls = heldIn (places (ls .1 .1 .1 .0)) (ls .1 .0) (ls .1 .1 .0) (places (ls .1 .1 .1 .1 .0))
 
 module _ (p : Passed) where
   abbrev pub ref : Page → RefT Page
@@ -234,8 +227,8 @@ module _ {M : Type 1} (𝓤 : URA M) (H : Heap 𝓤) (A : Atoms 𝓤) (W : Given
         use1 W (raw (RunC 𝓤 H A mem run .pre (to-ending 𝓤 H A mem run p job))) (goes-ending 𝓤 H A mem run p job W) $
         calls-at ! (fmOf 𝓤 H (W .laws) 𝓣) (RunC 𝓤 H A mem run) (known .ending) (to-ending 𝓤 H A mem run p job) (and-then ! (load ! (from ! (stop !)) (look ! 14 refl)) (and-then ! (load ! (from ! (stop !)) (look ! 19 refl)) (and-then ! (load ! (from ! (stop !)) (look ! 21 refl)) (and-then ! (load ! (from ! (stop !)) (look ! 23 refl)) (and-then ! (load ! (from ! (stop !)) (look ! 25 refl)) (no-more !)))))) (λ v.
         use1 W (later (some (λ (x : Picked). ((‵ (flft (p .κ₁) (p .q₁)) ⊛ (‵ (flft (p .κ₂) (p .q₂)) ⊛ (‵ (flft (p .κ₃) (p .q₃)) ⊛ (‵ (flft (p .κ₄) (p .q₄)) ⊛ ‵ ftrue)))) ⊛ ‵ (P.the-row .own x (v ∷ []))) ⊛ raw (ensured 𝓤 H A run-if.ended (run-if.clauses 𝓤 H A mem run) (p .κ₁, (p .κ₂, (p .κ₃, (p .κ₄, tt)))) (ending-args 𝓤 H A mem run p job) tt x)))) (id⊢ 𝓤 _) $ await ! tt $ pick ! (λ x.
-        split ! $ move ! (1 ∷ []) $ use1 W (some (λ (ls : Last). ‵ (lasts run-if.ended (p .κ₁, (p .κ₂, (p .κ₃, (p .κ₄, tt)))) (ending-args 𝓤 H A mem run p job) ls) ⊛ raw (fact 𝓤 (leftIn x (held-at ls) ≡ leftIf (is-run (job .value)) (job .value) (held p))))) (id⊢ 𝓤 _) $ pick ! (λ ls.
-        split ! $ move ! (1 ∷ []) $ heard ! (leftIn x (held-at ls) ≡ leftIf (is-run (job .value)) (job .value) (held p)) (λ told.
+        split ! $ move ! (1 ∷ []) $ use1 W (some (λ (ls : Last). ‵ (lasts run-if.ended (p .κ₁, (p .κ₂, (p .κ₃, (p .κ₄, tt)))) (ending-args 𝓤 H A mem run p job) ls) ⊛ raw (fact 𝓤 (leftIn x (heldAt ls) ≡ leftIf (is-run (job .value)) (job .value) (held p))))) (id⊢ 𝓤 _) $ pick ! (λ ls.
+        split ! $ move ! (1 ∷ []) $ heard ! (leftIn x (heldAt ls) ≡ leftIf (is-run (job .value)) (job .value) (held p)) (λ told.
         fsplit ! $ drop ! $ fsplit ! $ fsplit ! $ move ! (1 ∷ []) $ feqL ! (λ same-nodes. move ! (1 ∷ []) $
         fsplit ! $ fsplit ! $ move ! (1 ∷ []) $ feqL ! (λ same-edges. move ! (1 ∷ []) $
         fsplit ! $ fsplit ! $ move ! (1 ∷ []) $ feqL ! (λ same-list. move ! (1 ∷ []) $

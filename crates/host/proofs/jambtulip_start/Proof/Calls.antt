@@ -27,20 +27,20 @@ use denote.Triple.Clauses.{ensured, lasts}
 use denote.Triple.Spec.{tripleOf}
 use Rattle.border.specs.declared.Terms.{Terms}
 use Rattle.border.proofs.Terms as Te
-use Rattle.border.specs.declared.Held.{Held}
-use Rattle.border.proofs.Held as He
+use Rattle.border.specs.declared.HostSearch.{HostSearch}
+use Rattle.border.proofs.HostSearch as Hs
 use Rattle.search.specs.declared.Ask.{Ask}
 use Rattle.search.proofs.Ask as K
 use Rattle.search.specs.declared.Started.{Started}
 use Rattle.search.proofs.Started as St
 use Rattle.records.specs.declared.Record.{Record}
 use Rattle.records.proofs.Record as T
-use Rattle.border.proofs.Rows.{terms-makes, held-makes, started-makes}
-use Rattle.pick.proofs.Rows.{ask-makes}
+use Rattle.border.proofs.Rows.{terms-makes, host-search-makes}
+use Rattle.pick.proofs.Rows.{ask-makes, started-makes}
 use Rattle.records.specs.Structs.{places}
 use Rattle.search.specs.Asked.{problemOf}
 use Rattle.search.specs.Begins.{Begins}
-use Rattle.border.specs.Border.{numberOf, askIn, heldAfter}
+use Rattle.border.specs.Border.{numberOf, askIn, hostSearchAfter}
 use Rattle.searches.specs.Start as Def
 use Rattle.border.proofs.ask_in as ask-in
 use Rattle.border.proofs.ask_in.Symbol.{name as #asked}
@@ -69,7 +69,7 @@ pub record Passed : Type 0 where
   pub block : ℕ
   pub offset : ℕ
   pub name : GName
-  pub old : Held
+  pub old : HostSearch
   pub terms-val : Val
   pub weights-room : Room u64 (length (weights .now))
   pub profits-room : Room u64 (length (profits .now))
@@ -120,7 +120,7 @@ module _ (p : Passed) where
 -- the lent struct's machine value when it is opened
 pub record Lent (p : Passed) : Type 0 where
   pub val : Val
-  pub is : Is He.the-row (p .old) (val ∷ [])
+  pub is : Is Hs.the-row (p .old) (val ∷ [])
 
 -- what `ask_in` gives, with its machine value
 pub record Asked (p : Passed) : Type 0 where
@@ -140,10 +140,10 @@ pub record Begun (p : Passed) (asked : Asked p) : Type 0 where
 
 -- what `after_start` gives, with its machine value
 pub record Stored (p : Passed) (asked : Asked p) (begun : Begun p asked) : Type 0 where
-  pub value : Held
+  pub value : HostSearch
   pub val : Val
-  pub is : Is He.the-row value (val ∷ [])
-  pub told : value ≡ heldAfter (begun .value .verdict) (begun .value .search) (p .old)
+  pub is : Is Hs.the-row value (val ∷ [])
+  pub told : value ≡ hostSearchAfter (begun .value .verdict) (begun .value .search) (p .old)
 
 -- what `start_number` gives, with its machine value
 pub record Numbered (p : Passed) (asked : Asked p) (begun : Begun p asked) : Type 0 where
@@ -178,18 +178,18 @@ module _ {M : Type 1} (𝓤 : URA M) (H : Heap 𝓤) (A : Atoms 𝓤) (mem : Mem
         qed W (‵ (flft (p .κ₀) (p .q₀)) ∷ ‵ (flft (p .κ₁) (p .q₁)) ∷ ‵ (flft (p .κ₂) (p .q₂)) ∷ ‵ (Weights-owned p) ∷ ‵ (Profits-owned p) ∷ ‵ (List-owned p) ∷ []) ∵ nothing ! $ move ! (3 ∷ 0 ∷ []) $ join ! $ move ! (2 ∷ 0 ∷ []) $ join ! $ move ! (1 ∷ 0 ∷ []) $ join ! $ nothing ! $ move ! (4 ∷ 0 ∷ []) $ fjoin ! $ owned ! i64 (Is i64) (sint-makes 𝓤 H A W w64) (p .bound) ((vint w64 (ofZ w64 (p .bound))) ∷ []) (p .bound-is) $ fjoin ! $ owned ! K.the-row (Is K.the-row) (ask-makes 𝓤 H A) (asked .value) (asked .val ∷ []) (asked .is) $ fjoin ! $ move ! (3 ∷ 0 ∷ []) $ fjoin ! $ move ! (2 ∷ 0 ∷ []) $ fjoin ! $ move ! (1 ∷ 0 ∷ []) $ join ! $ frame ! $ done !
 
   module _ (lent : Lent p) (asked : Asked p) (begun : Begun p asked) where
-    abbrev pub stored-args : Started × (Held × Unit {0})
+    abbrev pub stored-args : Started × (HostSearch × Unit {0})
     stored-args = (begun .value, (p .old, tt))
 
     abbrev pub to-stored : AfterC 𝓤 H A mem run .Ghost
     to-stored = ((tt, tt, tt, stored-args, (begun .val ∷ [], (lent .val ∷ [], tt))), tt)
 
-    pub told-stored : (z : Held) → ent 𝓤 (ensured 𝓤 H A after-start.ended (after-start.clauses 𝓤 H A mem run) tt stored-args tt z) (fact 𝓤 (z ≡ heldAfter (begun .value .verdict) (begun .value .search) (p .old)))
-    told-stored z = exE 𝓤 _ (λ ws. snd∗ 𝓤 (sem 𝓤 H A (lasts after-start.ended tt stored-args ws)) (fact 𝓤 (z ≡ heldAfter (begun .value .verdict) (begun .value .search) (p .old))))
+    pub told-stored : (z : HostSearch) → ent 𝓤 (ensured 𝓤 H A after-start.ended (after-start.clauses 𝓤 H A mem run) tt stored-args tt z) (fact 𝓤 (z ≡ hostSearchAfter (begun .value .verdict) (begun .value .search) (p .old)))
+    told-stored z = exE 𝓤 _ (λ ws. snd∗ 𝓤 (sem 𝓤 H A (lasts after-start.ended tt stored-args ws)) (fact 𝓤 (z ≡ hostSearchAfter (begun .value .verdict) (begun .value .search) (p .old))))
 
     pub goes-stored : Given 𝓤 H A → ent 𝓤 (⋆ 𝓤 H A (‵ ftrue ∷ [])) (AfterC 𝓤 H A mem run .pre to-stored)
     goes-stored W =
-        qed W (‵ ftrue ∷ []) ∵ nothing ! $ owned ! He.the-row (Is He.the-row) (held-makes 𝓤 H A) (p .old) (lent .val ∷ []) (lent .is) $ fjoin ! $ owned ! St.the-row (Is St.the-row) (started-makes 𝓤 H A) (begun .value) (begun .val ∷ []) (begun .is) $ fjoin ! $ move ! (1 ∷ 0 ∷ []) $ join ! $ frame ! $ done !
+        qed W (‵ ftrue ∷ []) ∵ nothing ! $ owned ! Hs.the-row (Is Hs.the-row) (host-search-makes 𝓤 H A) (p .old) (lent .val ∷ []) (lent .is) $ fjoin ! $ owned ! St.the-row (Is St.the-row) (started-makes 𝓤 H A) (begun .value) (begun .val ∷ []) (begun .is) $ fjoin ! $ move ! (1 ∷ 0 ∷ []) $ join ! $ frame ! $ done !
 
   module _ (asked : Asked p) (begun : Begun p asked) where
     abbrev pub number-args : Started × Unit {0}

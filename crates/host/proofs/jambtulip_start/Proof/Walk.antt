@@ -38,9 +38,9 @@ use Rattle.host.proofs.Walking.{word, reads, writes, record-ref, record
 use Rattle.border.specs.declared.Terms.{Terms}
 use Rattle.border.proofs.Terms as Te
 use Rattle.border.proofs.Terms.Laws as Te′
-use Rattle.border.specs.declared.Held.{Held}
-use Rattle.border.proofs.Held as He
-use Rattle.border.proofs.Held.Laws as He′
+use Rattle.border.specs.declared.HostSearch.{HostSearch}
+use Rattle.border.proofs.HostSearch as Hs
+use Rattle.border.proofs.HostSearch.Laws as Hs′
 use Rattle.search.proofs.Ask as K
 use Rattle.search.proofs.Ask.Laws as K′
 use Rattle.search.specs.declared.Started.{Started}
@@ -48,12 +48,12 @@ use Rattle.search.proofs.Started as St
 use Rattle.search.proofs.Started.Laws as St′
 use Rattle.records.specs.declared.Record.{Record}
 use Rattle.records.proofs.Record as T
-use Rattle.border.proofs.Rows.{terms-typed, held-value, held-tells, held-makes, held-typed, started-typed}
-use Rattle.pick.proofs.Rows.{ask-typed}
+use Rattle.border.proofs.Rows.{terms-typed, host-search-value, host-search-tells, host-search-makes, host-search-typed}
+use Rattle.pick.proofs.Rows.{ask-typed, started-typed}
 use Rattle.records.specs.Structs.{places}
 use Rattle.search.specs.Asked.{problemOf}
 use Rattle.search.specs.Begins.{Begins}
-use Rattle.border.specs.Border.{numberOf, askIn, heldAfter}
+use Rattle.border.specs.Border.{numberOf, askIn, hostSearchAfter}
 use Rattle.host.specs.Promises.{StartsFor}
 use Rattle.host.proofs.Kept.{starts-for}
 use Rattle.searches.specs.Start as Def
@@ -68,23 +68,23 @@ use Rattle.host.proofs.jambtulip_start.Proof.Calls.{Passed, Known, Lent
 
 -- of what is only read nothing is kept to the end; a list or table is given up, with its last content told; the lent struct is still had
 abbrev pub stayed : Stays (f.ended .signature .params) (f.ended .kept)
-stayed = (stay-dropped (shrSliceOf (0 ∷ []) tt (plain (λ _. u64))) yes, (stay-dropped (shrSliceOf (1 ∷ []) tt (plain (λ _. u64))) yes, (stay-dropped (plain (λ _. Te.the-row)) yes, (stay-dropped (plain (λ _. i64)) yes, (gave-slice (2 ∷ []) tt (plain (λ _. T.the-row)), (stay-ref (3 ∷ []) tt (plain (λ _. He.the-row)), tt))))))
+stayed = (stay-dropped (shrSliceOf (0 ∷ []) tt (plain (λ _. u64))) yes, (stay-dropped (shrSliceOf (1 ∷ []) tt (plain (λ _. u64))) yes, (stay-dropped (plain (λ _. Te.the-row)) yes, (stay-dropped (plain (λ _. i64)) yes, (gave-slice (2 ∷ []) tt (plain (λ _. T.the-row)), (stay-ref (3 ∷ []) tt (plain (λ _. Hs.the-row)), tt))))))
 
 abbrev lent-struct : Ty
-lent-struct = tyRef (named 3) mut (pointee (He.the-row .written))
+lent-struct = tyRef (named 3) mut (pointee (Hs.the-row .written))
 
 -- the locals as they are written here, which are the function's
 abbrev pub locals : List Local
-locals = local word valueLocal ∷ local (reads 0 u64) valueLocal ∷ local (reads 1 u64) valueLocal ∷ local Te′.mir valueLocal ∷ local word valueLocal ∷ local (writes 2 T.the-row) valueLocal ∷ local lent-struct valueLocal ∷ local He′.mir valueLocal ∷ local K′.mir valueLocal ∷ local St′.mir valueLocal ∷ local He′.mir valueLocal ∷ local record-ref valueLocal ∷ local record-slice valueLocal ∷ []
+locals = local word valueLocal ∷ local (reads 0 u64) valueLocal ∷ local (reads 1 u64) valueLocal ∷ local Te′.mir valueLocal ∷ local word valueLocal ∷ local (writes 2 T.the-row) valueLocal ∷ local lent-struct valueLocal ∷ local Hs′.mir valueLocal ∷ local K′.mir valueLocal ∷ local St′.mir valueLocal ∷ local Hs′.mir valueLocal ∷ local record-ref valueLocal ∷ local record-slice valueLocal ∷ []
 
 pub same-locals : locals ≡ code.function .locals
 same-locals = refl
 
 module _ (p : Passed) where
-  abbrev pub ref : Held → RefT Held
+  abbrev pub ref : HostSearch → RefT HostSearch
   ref s = record { ptr = (p .block, p .offset); name = p .name; now = s }
 
-  abbrev pub args : RefT (List ℕ) × (RefT (List ℕ) × (Terms × (ℤ × (RefT (List Record) × (RefT Held × Unit {0})))))
+  abbrev pub args : RefT (List ℕ) × (RefT (List ℕ) × (Terms × (ℤ × (RefT (List Record) × (RefT HostSearch × Unit {0})))))
   args = (p .weights, (p .profits, (p .terms, (p .bound, (p .list, (ref (p .old), tt))))))
 
   abbrev pub passed-vals : List Val
@@ -110,18 +110,18 @@ module _ {M : Type 1} (𝓤 : URA M) (p : Passed) where
   abbrev pub Finals : List Record → List (Item 𝓤) → List (Item 𝓤)
   Finals rs Γ = ‵ (finally T.the-row (p .list .name) rs) ∷ Γ
 
-  abbrev pub Shut : Held → List (Item 𝓤) → List (Item 𝓤)
-  Shut s Γ = lent-shut He.the-row (p .κ₃) (p .q₃) (p .block) (p .offset) (p .name) s Γ
+  abbrev pub Shut : HostSearch → List (Item 𝓤) → List (Item 𝓤)
+  Shut s Γ = lent-shut Hs.the-row (p .κ₃) (p .q₃) (p .block) (p .offset) (p .name) s Γ
 
   abbrev pub Open : Val → List (Item 𝓤) → List (Item 𝓤)
-  Open v Γ = lent-open He.the-row (p .κ₃) (p .q₃) (p .block) (p .offset) (p .name) (p .old) v Γ
+  Open v Γ = lent-open Hs.the-row (p .κ₃) (p .q₃) (p .block) (p .offset) (p .name) (p .old) v Γ
 
 module _ {M : Type 1} (𝓤 : URA M) (H : Heap 𝓤) (A : Atoms 𝓤) (mem : Memory → SProp 𝓤) (run : Routine → Fun 𝓤) (p : Passed) where
   abbrev pub Post : Val → SProp 𝓤
   Post = walkOf 𝓤 H A f.ended stayed (f.clauses 𝓤 H A mem run) .post ((lfts p, parts p, tt, args p, vals p), tt)
 
   -- what it has at its end gives what its contract promises
-  exits : Given 𝓤 H A → (n : ℕ) (w : Val) (s : Held) (rs : List Record) → Is u64 n (w ∷ []) → StartsFor (Def.start (problemOf (p .weights .now) (p .profits .now) (p .terms .page) (p .terms .width)) (p .bound) (places (p .list .now))) n (p .old) s (places rs) → length rs ≡ length (p .list .now) → ent 𝓤 (⋆ 𝓤 H A (Shut 𝓤 p s (Tokens 𝓤 p (Finals 𝓤 p rs [])))) (Post w)
+  exits : Given 𝓤 H A → (n : ℕ) (w : Val) (s : HostSearch) (rs : List Record) → Is u64 n (w ∷ []) → StartsFor (Def.start (problemOf (p .weights .now) (p .profits .now) (p .terms .page) (p .terms .width)) (p .bound) (places (p .list .now))) n (p .old) s (places rs) → length rs ≡ length (p .list .now) → ent 𝓤 (⋆ 𝓤 H A (Shut 𝓤 p s (Tokens 𝓤 p (Finals 𝓤 p rs [])))) (Post w)
   exits W n w s rs is kept same-list =
       qed W (Shut 𝓤 p s (Tokens 𝓤 p (Finals 𝓤 p rs []))) ∵
       suffices ! _ (ends-at 𝓤 H A f.ended stayed (f.clauses 𝓤 H A mem run) W ((lfts p, parts p, tt, args p, vals p), tt) w n (tt, (tt, (tt, (tt, (rs, (s, tt)))))) (tt, (tt, (tt, (tt, (same-list, (tt, tt))))))) $ says ! kept $
@@ -131,7 +131,7 @@ module _ {M : Type 1} (𝓤 : URA M) (H : Heap 𝓤) (A : Atoms 𝓤) (W : Given
     (l₀ l₁ l₂ l₃ l₄ l₅ l₆ l₇ l₈ l₉ l₁₀ l₁₁ l₁₂ : ℕ) where
   -- the locals after the result, and all of them
   abbrev pub E₁ : Env 𝓤 H
-  E₁ = ((reads 0 u64), l₁) ∷ ((reads 1 u64), l₂) ∷ (Te′.mir, l₃) ∷ (word, l₄) ∷ ((writes 2 T.the-row), l₅) ∷ (lent-struct, l₆) ∷ (He′.mir, l₇) ∷ (K′.mir, l₈) ∷ (St′.mir, l₉) ∷ (He′.mir, l₁₀) ∷ (record-ref, l₁₁) ∷ (record-slice, l₁₂) ∷ []
+  E₁ = ((reads 0 u64), l₁) ∷ ((reads 1 u64), l₂) ∷ (Te′.mir, l₃) ∷ (word, l₄) ∷ ((writes 2 T.the-row), l₅) ∷ (lent-struct, l₆) ∷ (Hs′.mir, l₇) ∷ (K′.mir, l₈) ∷ (St′.mir, l₉) ∷ (Hs′.mir, l₁₀) ∷ (record-ref, l₁₁) ∷ (record-slice, l₁₂) ∷ []
 
   abbrev pub E : Env 𝓤 H
   E = (word, l₀) ∷ E₁
@@ -149,7 +149,7 @@ module _ {M : Type 1} (𝓤 : URA M) (H : Heap 𝓤) (A : Atoms 𝓤) (W : Given
   -- the number is in its local
   module _ (lent : Lent p) (asked : Asked p) (begun : Begun p asked) (stored : Stored p asked begun) (number : Numbered p asked begun) where
     abbrev Returning : List (Item 𝓤)
-    Returning = Shut 𝓤 p (stored .value) (Tokens 𝓤 p (Finals 𝓤 p (begun .rs) (Cells (holds word l₀ (number .val)) (holds He′.mir l₇ (lent .val)) (holds K′.mir l₈ (asked .val)) (holds St′.mir l₉ (begun .val)) (holds He′.mir l₁₀ (stored .val)) Lent-again)))
+    Returning = Shut 𝓤 p (stored .value) (Tokens 𝓤 p (Finals 𝓤 p (begun .rs) (Cells (holds word l₀ (number .val)) (holds Hs′.mir l₇ (lent .val)) (holds K′.mir l₈ (asked .val)) (holds St′.mir l₉ (begun .val)) (holds Hs′.mir l₁₀ (stored .val)) Lent-again)))
 
     pub returned : Sq W Returning (runs (𝓣 .C) (𝓣 .Λ) E pieces.t-9 (atRet E (Post 𝓤 H A mem run p)))
     returned =
@@ -160,7 +160,7 @@ module _ {M : Type 1} (𝓤 : URA M) (H : Heap 𝓤) (A : Atoms 𝓤) (W : Given
   -- it is stored
   module _ (lent : Lent p) (asked : Asked p) (begun : Begun p asked) (stored : Stored p asked begun) where
     abbrev Storing : List (Item 𝓤)
-    Storing = Shut 𝓤 p (stored .value) (Tokens 𝓤 p (Finals 𝓤 p (begun .rs) (Cells (room word l₀) (holds He′.mir l₇ (lent .val)) (holds K′.mir l₈ (asked .val)) (holds St′.mir l₉ (begun .val)) (holds He′.mir l₁₀ (stored .val)) Lent-again)))
+    Storing = Shut 𝓤 p (stored .value) (Tokens 𝓤 p (Finals 𝓤 p (begun .rs) (Cells (room word l₀) (holds Hs′.mir l₇ (lent .val)) (holds K′.mir l₈ (asked .val)) (holds St′.mir l₉ (begun .val)) (holds Hs′.mir l₁₀ (stored .val)) Lent-again)))
 
     pub numbers : Sq W Storing (runs (𝓣 .C) (𝓣 .Λ) E pieces.t-8 (atRet E (Post 𝓤 H A mem run p)))
     numbers =
@@ -173,31 +173,31 @@ module _ {M : Type 1} (𝓤 : URA M) (H : Heap 𝓤) (A : Atoms 𝓤) (W : Given
   -- the search after it is made
   module _ (lent : Lent p) (asked : Asked p) (begun : Begun p asked) (stored : Stored p asked begun) where
     abbrev Following : List (Item 𝓤)
-    Following = Open 𝓤 p (lent .val) (Tokens 𝓤 p (Finals 𝓤 p (begun .rs) (Cells (room word l₀) (holds He′.mir l₇ (lent .val)) (holds K′.mir l₈ (asked .val)) (holds St′.mir l₉ (begun .val)) (holds He′.mir l₁₀ (stored .val)) Lent-again)))
+    Following = Open 𝓤 p (lent .val) (Tokens 𝓤 p (Finals 𝓤 p (begun .rs) (Cells (room word l₀) (holds Hs′.mir l₇ (lent .val)) (holds K′.mir l₈ (asked .val)) (holds St′.mir l₉ (begun .val)) (holds Hs′.mir l₁₀ (stored .val)) Lent-again)))
 
     pub stores : Sq W Following (runs (𝓣 .C) (𝓣 .Λ) E pieces.t-7 (atRet E (Post 𝓤 H A mem run p)))
     stores =
-        assigns ! (of-opd ! (load ! (from ! (stop !)) (look ! 19 refl))) (from ! (hop ! (look ! 15 refl) (stop !))) (store-raw ! 0 refl (held-typed 𝓤 H A W (stored .value) (stored .val) (stored .is))) $
-        owned ! He.the-row (Is He.the-row) (held-makes 𝓤 H A) (stored .value) (stored .val ∷ []) (stored .is) $ move ! (1 ∷ 0 ∷ []) $ closes ! tt He.the-row (stored .value) (stored .val ∷ []) (p .block) (p .offset) $
+        assigns ! (of-opd ! (load ! (from ! (stop !)) (look ! 19 refl))) (from ! (hop ! (look ! 15 refl) (stop !))) (store-raw ! 0 refl (host-search-typed 𝓤 H A W (stored .value) (stored .val) (stored .is))) $
+        owned ! Hs.the-row (Is Hs.the-row) (host-search-makes 𝓤 H A) (stored .value) (stored .val ∷ []) (stored .is) $ move ! (1 ∷ 0 ∷ []) $ closes ! tt Hs.the-row (stored .value) (stored .val ∷ []) (p .block) (p .offset) $
         numbers lent asked begun stored
 
   -- the search is started, or refused
   module _ (lent : Lent p) (asked : Asked p) (begun : Begun p asked) where
     abbrev Starting : List (Item 𝓤)
-    Starting = Open 𝓤 p (lent .val) (Tokens 𝓤 p (Finals 𝓤 p (begun .rs) (Cells (room word l₀) (holds He′.mir l₇ (lent .val)) (holds K′.mir l₈ (asked .val)) (holds St′.mir l₉ (begun .val)) (room He′.mir l₁₀) Lent-again)))
+    Starting = Open 𝓤 p (lent .val) (Tokens 𝓤 p (Finals 𝓤 p (begun .rs) (Cells (room word l₀) (holds Hs′.mir l₇ (lent .val)) (holds K′.mir l₈ (asked .val)) (holds St′.mir l₉ (begun .val)) (room Hs′.mir l₁₀) Lent-again)))
 
     pub follows : Sq W Starting (runs (𝓣 .C) (𝓣 .Λ) E pieces.t-6 (atRet E (Post 𝓤 H A mem run p)))
     follows =
         nothing ! $ use1 W (raw (AfterC 𝓤 H A mem run .pre (to-stored 𝓤 H A mem run p lent asked begun))) (goes-stored 𝓤 H A mem run p lent asked begun W) $
         calls-at ! (fmOf 𝓤 H (W .laws) 𝓣) (AfterC 𝓤 H A mem run) (known .stored) (to-stored 𝓤 H A mem run p lent asked begun) (and-then ! (load ! (from ! (stop !)) (look ! 19 refl)) (and-then ! (load ! (from ! (stop !)) (look ! 17 refl)) (no-more !))) (λ v.
-        gives W He.the-row v (ensured 𝓤 H A after-start.ended (after-start.clauses 𝓤 H A mem run) tt (stored-args 𝓤 H A mem run p lent asked begun) tt) (λ x. x ≡ heldAfter (begun .value .verdict) (begun .value .search) (p .old)) (id⊢ 𝓤 _) (told-stored 𝓤 H A mem run p lent asked begun) (λ x told is.
-        land ! (from ! (stop !)) (init ! 19 refl (held-typed 𝓤 H A W x v is)) $
+        gives W Hs.the-row v (ensured 𝓤 H A after-start.ended (after-start.clauses 𝓤 H A mem run) tt (stored-args 𝓤 H A mem run p lent asked begun) tt) (λ x. x ≡ hostSearchAfter (begun .value .verdict) (begun .value .search) (p .old)) (id⊢ 𝓤 _) (told-stored 𝓤 H A mem run p lent asked begun) (λ x told is.
+        land ! (from ! (stop !)) (init ! 19 refl (host-search-typed 𝓤 H A W x v is)) $
         stores lent asked begun record { value = x; val = v; is = is; told = told }))
 
   -- the list is lent again
   module _ (lent : Lent p) (asked : Asked p) where
     abbrev Lending : List (Item 𝓤)
-    Lending = Open 𝓤 p (lent .val) (Tokens 𝓤 p (Slices 𝓤 p (Cells (room word l₀) (holds He′.mir l₇ (lent .val)) (holds K′.mir l₈ (asked .val)) (room St′.mir l₉) (room He′.mir l₁₀) Lent-again)))
+    Lending = Open 𝓤 p (lent .val) (Tokens 𝓤 p (Slices 𝓤 p (Cells (room word l₀) (holds Hs′.mir l₇ (lent .val)) (holds K′.mir l₈ (asked .val)) (room St′.mir l₉) (room Hs′.mir l₁₀) Lent-again)))
 
     pub starts : Sq W Lending (runs (𝓣 .C) (𝓣 .Λ) E pieces.t-5 (atRet E (Post 𝓤 H A mem run p)))
     starts =
@@ -217,7 +217,7 @@ module _ {M : Type 1} (𝓤 : URA M) (H : Heap 𝓤) (A : Atoms 𝓤) (W : Given
   -- what is asked is made
   module _ (lent : Lent p) (asked : Asked p) where
     abbrev Asking : List (Item 𝓤)
-    Asking = Open 𝓤 p (lent .val) (Tokens 𝓤 p (Slices 𝓤 p (Cells (room word l₀) (holds He′.mir l₇ (lent .val)) (holds K′.mir l₈ (asked .val)) (room St′.mir l₉) (room He′.mir l₁₀) Empty)))
+    Asking = Open 𝓤 p (lent .val) (Tokens 𝓤 p (Slices 𝓤 p (Cells (room word l₀) (holds Hs′.mir l₇ (lent .val)) (holds K′.mir l₈ (asked .val)) (room St′.mir l₉) (room Hs′.mir l₁₀) Empty)))
 
     pub lends : Sq W Asking (runs (𝓣 .C) (𝓣 .Λ) E pieces.t-3 (atRet E (Post 𝓤 H A mem run p)))
     lends =
@@ -228,7 +228,7 @@ module _ {M : Type 1} (𝓤 : URA M) (H : Heap 𝓤) (A : Atoms 𝓤) (W : Given
   -- it is copied
   module _ (lent : Lent p) where
     abbrev Copied : List (Item 𝓤)
-    Copied = Open 𝓤 p (lent .val) (Tokens 𝓤 p (Slices 𝓤 p (Cells (room word l₀) (holds He′.mir l₇ (lent .val)) (room K′.mir l₈) (room St′.mir l₉) (room He′.mir l₁₀) Empty)))
+    Copied = Open 𝓤 p (lent .val) (Tokens 𝓤 p (Slices 𝓤 p (Cells (room word l₀) (holds Hs′.mir l₇ (lent .val)) (room K′.mir l₈) (room St′.mir l₉) (room Hs′.mir l₁₀) Empty)))
 
     pub asks : Sq W Copied (runs (𝓣 .C) (𝓣 .Λ) E pieces.t-2 (atRet E (Post 𝓤 H A mem run p)))
     asks =
@@ -241,20 +241,20 @@ module _ {M : Type 1} (𝓤 : URA M) (H : Heap 𝓤) (A : Atoms 𝓤) (W : Given
   -- the lent search is open
   module _ (lent : Lent p) where
     abbrev Opened : List (Item 𝓤)
-    Opened = Open 𝓤 p (lent .val) (Tokens 𝓤 p (Slices 𝓤 p (Cells (room word l₀) (room He′.mir l₇) (room K′.mir l₈) (room St′.mir l₉) (room He′.mir l₁₀) Empty)))
+    Opened = Open 𝓤 p (lent .val) (Tokens 𝓤 p (Slices 𝓤 p (Cells (room word l₀) (room Hs′.mir l₇) (room K′.mir l₈) (room St′.mir l₉) (room Hs′.mir l₁₀) Empty)))
 
     pub copies : Sq W Opened (runs (𝓣 .C) (𝓣 .Λ) E pieces.t-1 (atRet E (Post 𝓤 H A mem run p)))
-    copies = assigns ! (of-opd ! (load ! (from ! (hop ! (look ! 17 refl) (stop !))) (look-raw ! 0 refl))) (from ! (stop !)) (init ! 18 refl (held-typed 𝓤 H A W (p .old) (lent .val) (lent .is))) $ asks lent
+    copies = assigns ! (of-opd ! (load ! (from ! (hop ! (look ! 17 refl) (stop !))) (look-raw ! 0 refl))) (from ! (stop !)) (init ! 18 refl (host-search-typed 𝓤 H A W (p .old) (lent .val) (lent .is))) $ asks lent
 
   -- the locals are there, the arguments are stored, and the lent struct is opened
   abbrev pub Entered : List (Item 𝓤)
-  Entered = Shut 𝓤 p (p .old) (Tokens 𝓤 p (Slices 𝓤 p (deaths 𝓤 H E ∷ room word l₀ ∷ room (reads 0 u64) l₁ ∷ room (reads 1 u64) l₂ ∷ room Te′.mir l₃ ∷ room word l₄ ∷ room (writes 2 T.the-row) l₅ ∷ room lent-struct l₆ ∷ room He′.mir l₇ ∷ room K′.mir l₈ ∷ room St′.mir l₉ ∷ room He′.mir l₁₀ ∷ room record-ref l₁₁ ∷ room record-slice l₁₂ ∷ ‵ ftrue ∷ [])))
+  Entered = Shut 𝓤 p (p .old) (Tokens 𝓤 p (Slices 𝓤 p (deaths 𝓤 H E ∷ room word l₀ ∷ room (reads 0 u64) l₁ ∷ room (reads 1 u64) l₂ ∷ room Te′.mir l₃ ∷ room word l₄ ∷ room (writes 2 T.the-row) l₅ ∷ room lent-struct l₆ ∷ room Hs′.mir l₇ ∷ room K′.mir l₈ ∷ room St′.mir l₉ ∷ room Hs′.mir l₁₀ ∷ room record-ref l₁₁ ∷ room record-slice l₁₂ ∷ ‵ ftrue ∷ [])))
 
   pub passed : Sq W Entered (passes E₁ (passed-vals p) (runs (𝓣 .C) (𝓣 .Λ) E pieces.t-1 (atRet E (Post 𝓤 H A mem run p))))
   passed =
       pass1 ! (init ! 11 refl (tt, (tt, (record { fits = p .weights-room .0 }, tt)))) $ pass1 ! (init ! 12 refl (tt, (tt, (record { fits = p .profits-room .0 }, tt)))) $ pass1 ! (init ! 13 refl (terms-typed 𝓤 H A W (p .terms) (p .terms-val) (p .terms-is))) $ pass1 ! (init ! 14 refl (sint-lawful 𝓤 H A W w64 .typed (p .bound) _ (p .bound-is) .0)) $ pass1 ! (init ! 15 refl (tt, (tt, (record { fits = p .list-room .0 }, tt)))) $ pass1 ! (init ! 16 refl (tt, tt)) $ pass0 ! $
-      opens ! tt He.the-row {h = p .old} (p .block) (p .offset) (λ vs. spelt ! He.the-row (Is He.the-row) (shows 𝓤 H A He.the-row) (λ x. held-value x ∷ []) held-tells fullShare (p .old) vs (p .block) (p .offset) $ move ! (1 ∷ []) $
-      facts ! He.the-row (Is He.the-row) (shows 𝓤 H A He.the-row) (p .old) (held-value (p .old) ∷ []) (λ is. copies (record { val = held-value (p .old); is = is })))
+      opens ! tt Hs.the-row {h = p .old} (p .block) (p .offset) (λ vs. spelt ! Hs.the-row (Is Hs.the-row) (shows 𝓤 H A Hs.the-row) (λ x. host-search-value x ∷ []) host-search-tells fullShare (p .old) vs (p .block) (p .offset) $ move ! (1 ∷ []) $
+      facts ! Hs.the-row (Is Hs.the-row) (shows 𝓤 H A Hs.the-row) (p .old) (host-search-value (p .old) ∷ []) (λ is. copies (record { val = host-search-value (p .old); is = is })))
 
 module _ {M : Type 1} (𝓤 : URA M) (H : Heap 𝓤) (A : Atoms 𝓤) (W : Given 𝓤 H A) (mem : Memory → SProp 𝓤) (run : Routine → Fun 𝓤) (p : Passed) (𝓣 : Tables 𝓤 H) (known : Known 𝓤 H A mem run 𝓣) where
   abbrev pub Taken : List (Item 𝓤)

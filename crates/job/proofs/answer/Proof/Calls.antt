@@ -29,9 +29,8 @@ use denote.Triple.Walked.{says, Stays, stay-dropped, gave-slice, walkOf, ends-at
 use denote.Exit.{yes}
 use denote.Signature.{plain, shrSliceOf}
 use Rattle.records.specs.declared.Record.{Record}
-use Rattle.records.specs.Structs.{places, noRecord}
+use Rattle.records.specs.Structs.{noRecord}
 use Rattle.records.proofs.Record as T
-use Rattle.searches.specs.Pick.{Held}
 use Rattle.compile_records.specs.Queried.{lentOf}
 use Rattle.pick.specs.Picks.{heldIn}
 use Rattle.page_text.specs.declared.Output.{Output}
@@ -40,7 +39,7 @@ use Rattle.records.proofs.empty as empty
 use Rattle.job.specs.Answered.{Answers, LeavesTables, emptyPlaces}
 use Rattle.job.proofs.Rows.{output-makes}
 use Rattle.job.proofs.OwnLists.{Rows, lent-list, most-open, most-scratch}
-use Rattle.job.proofs.least as least
+use Rattle.job.proofs.smaller as smaller
 use Rattle.job.proofs.run_job as whole
 use Rattle.job.proofs.answer as f
 
@@ -146,26 +145,19 @@ module _ {M : Type 1} (𝓤 : URA M) (H : Heap 𝓤) (A : Atoms 𝓤) (mem : Mem
   told-empty r = exE 𝓤 _ (λ ws. snd∗ 𝓤 (sem 𝓤 H A (lasts empty.ended tt tt ws)) (fact 𝓤 (r ≡ noRecord)))
 
   -- the smaller of two numbers
-  abbrev pub LeastC : Contract 𝓤
-  LeastC = tripleOf 𝓤 H A least.signature (least.spec 𝓤 H A mem run)
+  abbrev pub SmallerC : Contract 𝓤
+  SmallerC = tripleOf 𝓤 H A smaller.signature (smaller.spec 𝓤 H A mem run)
 
   module _ (a b : ℕ) where
-    abbrev pub to-least : LeastC .Ghost
-    to-least = ((tt, tt, tt, (a, (b, tt)), (vint w64 a ∷ [], (vint w64 b ∷ [], tt))), tt)
+    abbrev pub to-smaller : SmallerC .Ghost
+    to-smaller = ((tt, tt, tt, (a, (b, tt)), (vint w64 a ∷ [], (vint w64 b ∷ [], tt))), tt)
 
-    pub goes-least : Given 𝓤 H A → a < 2 ^ 64 → b < 2 ^ 64 → ent 𝓤 (sem 𝓤 H A ftrue) (LeastC .pre to-least)
-    goes-least W a-fits b-fits =
+    pub goes-smaller : Given 𝓤 H A → a < 2 ^ 64 → b < 2 ^ 64 → ent 𝓤 (sem 𝓤 H A ftrue) (SmallerC .pre to-smaller)
+    goes-smaller W a-fits b-fits =
         qed W (‵ ftrue ∷ []) ∵ nothing ! $ owned ! usize (Is usize) (uint-makes 𝓤 H A W w64) b (vint w64 b ∷ []) (refl, b-fits) $ fjoin ! $ owned ! usize (Is usize) (uint-makes 𝓤 H A W w64) a (vint w64 a ∷ []) (refl, a-fits) $ fjoin ! $ move ! (1 ∷ 0 ∷ []) $ join ! $ frame ! $ done !
 
-    pub told-least : (z : ℕ) → ent 𝓤 (ensured 𝓤 H A least.ended (least.clauses 𝓤 H A mem run) tt (a, (b, tt)) tt z) (fact 𝓤 (z ≡ min a b))
-    told-least z = exE 𝓤 _ (λ ws. snd∗ 𝓤 (sem 𝓤 H A (lasts least.ended tt (a, (b, tt)) ws)) (fact 𝓤 (z ≡ min a b)))
-
--- what is bound of `run_job`'s parameters at its end: the tables and the lists
-abbrev pub Last : Type 0
-Last = Unit {0} × (List ℕ × (List ℕ × (List Record × (List Record × Unit {0}))))
-
-abbrev pub heldAt : Last → Held
-heldAt zs = heldIn (places (zs .1 .1 .1 .0)) (zs .1 .0) (zs .1 .1 .0) (places (zs .1 .1 .1 .1 .0))
+    pub told-smaller : (z : ℕ) → ent 𝓤 (ensured 𝓤 H A smaller.ended (smaller.clauses 𝓤 H A mem run) tt (a, (b, tt)) tt z) (fact 𝓤 (z ≡ min a b))
+    told-smaller z = exE 𝓤 _ (λ ws. snd∗ 𝓤 (sem 𝓤 H A (lasts smaller.ended tt (a, (b, tt)) ws)) (fact 𝓤 (z ≡ min a b)))
 
 -- The run: the list lies at l₇, and its first n places are lent for the lifetime α; the scratch list at l₈, its first m for β.
 module _ {M : Type 1} (𝓤 : URA M) (H : Heap 𝓤) (A : Atoms 𝓤) (mem : Memory → SProp 𝓤) (run : Routine → Fun 𝓤) (p : Passed) (n m l₇ l₈ : ℕ) (list scratch : List Record) (α : ℕ) (γ : GName) (β : ℕ) (δ : GName) where

@@ -47,14 +47,15 @@ use Rattle.pick.proofs.Rows.{record-typed}
 use Rattle.job.specs.Answered.{Answers, Leaves}
 use Rattle.job.proofs.Answering.{empty-lists}
 use Rattle.job.proofs.OwnLists.{list-ty, Rows, long, repeated, lent-list, list-typed, list-makes, lends-list, list-back, most-open, most-scratch, room-open, room-scratch, few-open, few-scratch, large}
+use Rattle.job.proofs.Last.{Last, heldAt}
 use Rattle.job.proofs.Rows.{output-typed}
-use Rattle.job.proofs.least as least
-use Rattle.job.proofs.least.Symbol.{name as #job·least}
+use Rattle.job.proofs.smaller as smaller
+use Rattle.job.proofs.smaller.Symbol.{name as #job·smaller}
 use Rattle.job.proofs.run_job as whole
 use Rattle.job.proofs.run_job.Symbol.{name as #job·run-job}
 use Rattle.job.proofs.answer.Code as code
 use Rattle.job.proofs.answer.Code.Mir as pieces
-use Rattle.job.proofs.answer.Proof.Calls.{Passed, Made, Counted, text-val, nodes-val, edges-val, opens-val, spares-val, Text, Nodes, Edges, Answered, EmptyC, LeastC, RunC, to-empty, goes-empty, told-empty, to-least, goes-least, told-least, Last, heldAt, run-args, run-lfts, to-run, run-tokens, goes-run, Post, Left-over, exits}
+use Rattle.job.proofs.answer.Proof.Calls.{Passed, Made, Counted, text-val, nodes-val, edges-val, opens-val, spares-val, Text, Nodes, Edges, Answered, EmptyC, SmallerC, RunC, to-empty, goes-empty, told-empty, to-smaller, goes-smaller, told-smaller, run-args, run-lfts, to-run, run-tokens, goes-run, Post, Left-over, exits}
 
 abbrev word : Ty
 word = tyInt w64
@@ -105,7 +106,7 @@ same-makes = refl
 
 module _ {M : Type 1} (𝓤 : URA M) (H : Heap 𝓤) (A : Atoms 𝓤) (W : Given 𝓤 H A) (mem : Memory → SProp 𝓤) (run : Routine → Fun 𝓤) (p : Passed) (𝓣 : Tables 𝓤 H)
     (known-empty : Triple 𝓤 (𝓣 .C #records·empty) (EmptyC 𝓤 H A mem run))
-    (known-least : Triple 𝓤 (𝓣 .C #job·least) (LeastC 𝓤 H A mem run))
+    (known-smaller : Triple 𝓤 (𝓣 .C #job·smaller) (SmallerC 𝓤 H A mem run))
     (known-run : Triple 𝓤 (𝓣 .C #job·run-job) (RunC 𝓤 H A mem run))
     (l₀ l₁ l₂ l₃ l₄ l₅ l₆ l₇ l₈ l₉ l₁₀ l₁₁ l₁₂ l₁₃ l₁₄ l₁₅ l₁₆ l₁₇ l₁₈ : ℕ) where
   abbrev pub E : Env 𝓤 H
@@ -253,10 +254,10 @@ module _ {M : Type 1} (𝓤 : URA M) (H : Heap 𝓤) (A : Atoms 𝓤) (W : Given
 
       counts-scratch : Sq W Half (runs (𝓣 .C) (𝓣 .Λ) E pieces.t-5 (atRet E (Post 𝓤 H A mem run p)))
       counts-scratch =
-          nothing ! $ use1 W (raw (LeastC 𝓤 H A mem run .pre (to-least 𝓤 H A mem run (p .spares) 4096))) (goes-least 𝓤 H A mem run (p .spares) 4096 W (p .spares-fits) (omega arith)) $
-          calls-at ! (fmOf 𝓤 H (W .laws) 𝓣) (LeastC 𝓤 H A mem run) known-least (to-least 𝓤 H A mem run (p .spares) 4096) (and-then ! (load ! (from ! (stop !)) (look ! 13 refl)) (and-then ! (large ! record { fits = omega arith }) (no-more !))) (λ v.
-          use1 W (later (some (λ (x : ℕ). (‵ ftrue ⊛ ‵ (usize .own x (v ∷ []))) ⊛ raw (ensured 𝓤 H A least.ended (least.clauses 𝓤 H A mem run) tt (p .spares, (4096, tt)) tt x)))) (id⊢ 𝓤 _) $ await ! tt $ pick ! (λ x.
-          split ! $ move ! (1 ∷ []) $ use1 W (raw (fact 𝓤 (x ≡ min (p .spares) 4096))) (told-least 𝓤 H A mem run (p .spares) 4096 x) $ heard ! (x ≡ min (p .spares) 4096) (λ e.
+          nothing ! $ use1 W (raw (SmallerC 𝓤 H A mem run .pre (to-smaller 𝓤 H A mem run (p .spares) 4096))) (goes-smaller 𝓤 H A mem run (p .spares) 4096 W (p .spares-fits) (omega arith)) $
+          calls-at ! (fmOf 𝓤 H (W .laws) 𝓣) (SmallerC 𝓤 H A mem run) known-smaller (to-smaller 𝓤 H A mem run (p .spares) 4096) (and-then ! (load ! (from ! (stop !)) (look ! 13 refl)) (and-then ! (large ! record { fits = omega arith }) (no-more !))) (λ v.
+          use1 W (later (some (λ (x : ℕ). (‵ ftrue ⊛ ‵ (usize .own x (v ∷ []))) ⊛ raw (ensured 𝓤 H A smaller.ended (smaller.clauses 𝓤 H A mem run) tt (p .spares, (4096, tt)) tt x)))) (id⊢ 𝓤 _) $ await ! tt $ pick ! (λ x.
+          split ! $ move ! (1 ∷ []) $ use1 W (raw (fact 𝓤 (x ≡ min (p .spares) 4096))) (told-smaller 𝓤 H A mem run (p .spares) 4096 x) $ heard ! (x ≡ min (p .spares) 4096) (λ e.
           split ! $ move ! (1 ∷ []) $ facts ! usize (Is usize) (shows 𝓤 H A usize) x (v ∷ []) (λ is.
           land ! (from ! (stop !)) (init ! 18 refl (uint-lawful 𝓤 H A W w64 .typed x _ is .0)) $ drop ! $ rewrite ! 17 (λ (y : Val). ‵ (fat fullShare word l₁₀ 0 y)) (ap only (is .0)) refl $
           lends record { n = n; m = x; n-fits = n-fits; m-fits = is .1; n-is = n-is; m-is = e }))))
@@ -266,10 +267,10 @@ module _ {M : Type 1} (𝓤 : URA M) (H : Heap 𝓤) (A : Atoms 𝓤) (W : Given
 
     counts : Sq W Filled (runs (𝓣 .C) (𝓣 .Λ) E pieces.t-4 (atRet E (Post 𝓤 H A mem run p)))
     counts =
-        nothing ! $ use1 W (raw (LeastC 𝓤 H A mem run .pre (to-least 𝓤 H A mem run (p .opens) 16384))) (goes-least 𝓤 H A mem run (p .opens) 16384 W (p .opens-fits) (omega arith)) $
-        calls-at ! (fmOf 𝓤 H (W .laws) 𝓣) (LeastC 𝓤 H A mem run) known-least (to-least 𝓤 H A mem run (p .opens) 16384) (and-then ! (load ! (from ! (stop !)) (look ! 12 refl)) (and-then ! (large ! record { fits = omega arith }) (no-more !))) (λ v.
-        use1 W (later (some (λ (x : ℕ). (‵ ftrue ⊛ ‵ (usize .own x (v ∷ []))) ⊛ raw (ensured 𝓤 H A least.ended (least.clauses 𝓤 H A mem run) tt (p .opens, (16384, tt)) tt x)))) (id⊢ 𝓤 _) $ await ! tt $ pick ! (λ x.
-        split ! $ move ! (1 ∷ []) $ use1 W (raw (fact 𝓤 (x ≡ min (p .opens) 16384))) (told-least 𝓤 H A mem run (p .opens) 16384 x) $ heard ! (x ≡ min (p .opens) 16384) (λ e.
+        nothing ! $ use1 W (raw (SmallerC 𝓤 H A mem run .pre (to-smaller 𝓤 H A mem run (p .opens) 16384))) (goes-smaller 𝓤 H A mem run (p .opens) 16384 W (p .opens-fits) (omega arith)) $
+        calls-at ! (fmOf 𝓤 H (W .laws) 𝓣) (SmallerC 𝓤 H A mem run) known-smaller (to-smaller 𝓤 H A mem run (p .opens) 16384) (and-then ! (load ! (from ! (stop !)) (look ! 12 refl)) (and-then ! (large ! record { fits = omega arith }) (no-more !))) (λ v.
+        use1 W (later (some (λ (x : ℕ). (‵ ftrue ⊛ ‵ (usize .own x (v ∷ []))) ⊛ raw (ensured 𝓤 H A smaller.ended (smaller.clauses 𝓤 H A mem run) tt (p .opens, (16384, tt)) tt x)))) (id⊢ 𝓤 _) $ await ! tt $ pick ! (λ x.
+        split ! $ move ! (1 ∷ []) $ use1 W (raw (fact 𝓤 (x ≡ min (p .opens) 16384))) (told-smaller 𝓤 H A mem run (p .opens) 16384 x) $ heard ! (x ≡ min (p .opens) 16384) (λ e.
         split ! $ move ! (1 ∷ []) $ facts ! usize (Is usize) (shows 𝓤 H A usize) x (v ∷ []) (λ is.
         land ! (from ! (stop !)) (init ! 17 refl (uint-lawful 𝓤 H A W w64 .typed x _ is .0)) $ drop ! $ rewrite ! 16 (λ (y : Val). ‵ (fat fullShare word l₉ 0 y)) (ap only (is .0)) refl $
         counts-scratch x (is .1) e))))
@@ -304,7 +305,7 @@ module _ {M : Type 1} (𝓤 : URA M) (H : Heap 𝓤) (A : Atoms 𝓤) (W : Given
 
 module _ {M : Type 1} (𝓤 : URA M) (H : Heap 𝓤) (A : Atoms 𝓤) (W : Given 𝓤 H A) (mem : Memory → SProp 𝓤) (run : Routine → Fun 𝓤) (p : Passed) (𝓣 : Tables 𝓤 H)
     (known-empty : Triple 𝓤 (𝓣 .C #records·empty) (EmptyC 𝓤 H A mem run))
-    (known-least : Triple 𝓤 (𝓣 .C #job·least) (LeastC 𝓤 H A mem run))
+    (known-smaller : Triple 𝓤 (𝓣 .C #job·smaller) (SmallerC 𝓤 H A mem run))
     (known-run : Triple 𝓤 (𝓣 .C #job·run-job) (RunC 𝓤 H A mem run)) where
   abbrev pub Taken : List (Item 𝓤)
   Taken = ‵ (flft (p .κ₀) (p .s₀)) ∷ ‵ (flft (p .κ₁) (p .s₁)) ∷ ‵ (flft (p .κ₂) (p .s₂)) ∷ ‵ (Text p) ∷ ‵ (Nodes p) ∷ ‵ (Edges p) ∷ []
@@ -323,4 +324,4 @@ module _ {M : Type 1} (𝓤 : URA M) (H : Heap 𝓤) (A : Atoms 𝓤) (W : Given
   entered =
       all-entered W (𝓣 .C) (𝓣 .Λ) O′.mir passed-in others valueLocal pieces.t-1 Taken (Post 𝓤 H A mem run p) passed-typed (λ b bs.
       move ! (2 ∷ 3 ∷ 4 ∷ 5 ∷ 6 ∷ 7 ∷ 1 ∷ 0 ∷ []) $
-      by ! (begins 𝓤 H A W mem run p 𝓣 known-empty known-least known-run b (bs .0) (bs .1 .0) (bs .1 .1 .0) (bs .1 .1 .1 .0) (bs .1 .1 .1 .1 .0) (bs .1 .1 .1 .1 .1 .0) (bs .1 .1 .1 .1 .1 .1 .0) (bs .1 .1 .1 .1 .1 .1 .1 .0) (bs .1 .1 .1 .1 .1 .1 .1 .1 .0) (bs .1 .1 .1 .1 .1 .1 .1 .1 .1 .0) (bs .1 .1 .1 .1 .1 .1 .1 .1 .1 .1 .0) (bs .1 .1 .1 .1 .1 .1 .1 .1 .1 .1 .1 .0) (bs .1 .1 .1 .1 .1 .1 .1 .1 .1 .1 .1 .1 .0) (bs .1 .1 .1 .1 .1 .1 .1 .1 .1 .1 .1 .1 .1 .0) (bs .1 .1 .1 .1 .1 .1 .1 .1 .1 .1 .1 .1 .1 .1 .0) (bs .1 .1 .1 .1 .1 .1 .1 .1 .1 .1 .1 .1 .1 .1 .1 .0) (bs .1 .1 .1 .1 .1 .1 .1 .1 .1 .1 .1 .1 .1 .1 .1 .1 .0) (bs .1 .1 .1 .1 .1 .1 .1 .1 .1 .1 .1 .1 .1 .1 .1 .1 .1 .0) .prf))
+      by ! (begins 𝓤 H A W mem run p 𝓣 known-empty known-smaller known-run b (bs .0) (bs .1 .0) (bs .1 .1 .0) (bs .1 .1 .1 .0) (bs .1 .1 .1 .1 .0) (bs .1 .1 .1 .1 .1 .0) (bs .1 .1 .1 .1 .1 .1 .0) (bs .1 .1 .1 .1 .1 .1 .1 .0) (bs .1 .1 .1 .1 .1 .1 .1 .1 .0) (bs .1 .1 .1 .1 .1 .1 .1 .1 .1 .0) (bs .1 .1 .1 .1 .1 .1 .1 .1 .1 .1 .0) (bs .1 .1 .1 .1 .1 .1 .1 .1 .1 .1 .1 .0) (bs .1 .1 .1 .1 .1 .1 .1 .1 .1 .1 .1 .1 .0) (bs .1 .1 .1 .1 .1 .1 .1 .1 .1 .1 .1 .1 .1 .0) (bs .1 .1 .1 .1 .1 .1 .1 .1 .1 .1 .1 .1 .1 .1 .0) (bs .1 .1 .1 .1 .1 .1 .1 .1 .1 .1 .1 .1 .1 .1 .1 .0) (bs .1 .1 .1 .1 .1 .1 .1 .1 .1 .1 .1 .1 .1 .1 .1 .1 .0) (bs .1 .1 .1 .1 .1 .1 .1 .1 .1 .1 .1 .1 .1 .1 .1 .1 .1 .0) .prf))

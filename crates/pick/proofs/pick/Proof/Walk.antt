@@ -74,7 +74,7 @@ use Rattle.pick.proofs.settled as settle
 use Rattle.pick.proofs.settled.Symbol.{name as #pick·settled}
 use Rattle.pick.proofs.pick.Code as code
 use Rattle.pick.proofs.pick.Code.Mir as pieces
-use Rattle.pick.proofs.pick.Proof.Calls.{Passed, list, scratch, weights-val, profits-val, nodes-val, edges-val, list-val, scratch-val, Weights, Profits, Nodes, Edges, Listed, Scratch, ListShared, ScratchLent, ScratchShared, Get, Judge, Queried, CompileIf, Tallied, Settled, get-args, to-get, told-get, goes-get, judge-args, to-judge, told-judge, goes-judge, query-args, to-query, told-query, goes-query, compile-args, to-compile, goes-compile, tally-args, to-tally, told-tally, goes-tally, settle-args, to-settle, goes-settle}
+use Rattle.pick.proofs.pick.Proof.Calls.{Passed, weights-val, profits-val, nodes-val, edges-val, list-val, scratch-val, Weights, Profits, Nodes, Edges, Listed, Scratch, ListShared, ScratchLent, ScratchShared, Get, Judge, Queried, CompileIf, Tallied, Settled, get-args, to-get, told-get, goes-get, judge-args, to-judge, told-judge, goes-judge, query-args, to-query, told-query, goes-query, compile-args, to-compile, goes-compile, tally-args, to-tally, told-tally, goes-tally, settle-args, to-settle, goes-settle}
 use Rattle.pick.proofs.Rows.{ask-typed, record-typed, verdict-typed, query-typed, answer-typed, tally-typed, search-typed, picked-typed}
 use Rattle.pick.proofs.pick.Proof.Ends.{Promise, Post, exits, shares-scratch, scratch-back}
 
