@@ -35,3 +35,17 @@ def swapped_words(words, simple):
     for i in range(len(words) - 1):
         if words[i] != words[i + 1] and all(re.fullmatch(simple, w) for w in words[i:i + 2]):
             yield words[:i] + [words[i + 1], words[i]] + words[i + 2:]
+
+
+def alike(declarations):
+    """What a field can be taken for: another of its struct or record with the same type. A declaration is its fields, each with its type."""
+    others = {}
+    for fields in declarations:
+        of_type = {}
+        for name, kind in fields:
+            of_type.setdefault(kind, []).append(name)
+        for names in of_type.values():
+            for a, b in zip(names, names[1:] + names[:1]):
+                if a != b:
+                    others.setdefault(a, set()).add(b)
+    return others

@@ -20,7 +20,8 @@ FOLLOWS = "was not admitted"  # an error that only says that another one was bef
 class Verdict(NamedTuple):
     """accepted; refused; none: the change isn't Rattle, or doesn't type; text: refused, but only since a proof names what is gone, or follows
     the code step by step. Then programs that lean on the changed crate are run without proof: wrong, if one writes something else than
-    its stored output, alike if none does; it stays text where there is no such program, as of a definition."""
+    its stored output, alike if none does; it stays text where there is no such program, as of a definition. loose: accepted, and such a
+    program writes something else."""
 
     word: str
     errors: list
@@ -101,6 +102,8 @@ def judged(folder, crate, change, text, further):
         word, errors = run_unproved(folder, crate, errors)
     if word == "accepted":
         word, errors = asked_further(folder, [crate, *(theory_above(crate) if further else [])])
+    if word == "accepted" and file_is_code(change.file) and run_unproved(folder, crate, [])[0] == "wrong":
+        word = "loose"
     path.write_text(kept)
     return Verdict(word, errors, time.time() - since)
 

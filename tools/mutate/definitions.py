@@ -5,7 +5,7 @@ other's place. Names and types are left as they are, and so are the computed sta
 """
 import re
 
-from change import Change, at_each, counted_on
+from change import Change, alike, at_each, counted_on
 
 WORDS = {"leb": "ltb", "ltb": "leb", "true": "false", "false": "true", "take": "drop", "drop": "take"}
 SIGNS = {" + ": " - ", " - ": " + ", " * ": " + ", " && ": " || ", " || ": " && ", " ≤ ": " < ", " < ": " ≤ ", " <ℤ ": " ≤ℤ ", " ≤ℤ ": " <ℤ "}
@@ -18,23 +18,14 @@ ATOM = rf"(?:{NAME}|\([^()]*(?:\([^()]*(?:\([^()]*\)[^()]*)*\)[^()]*)*\))"
 
 
 def alike_fields(top):
-    """What a field can be taken for: another of its record and type."""
-    alike = {}
-    for path in top.glob("crates/*/specs/**/*.antt"):
-        for body in re.findall(r"(?m)^(?:pub )?record [^\n]* where\n((?:  .*\n)+)", path.read_text()):
-            of_type = {}
-            for name, kind in re.findall(rf"(?m)^  pub ({NAME}) : (.+)$", body):
-                of_type.setdefault(kind, []).append(name)
-            for names in of_type.values():
-                for a, b in zip(names, names[1:] + names[:1]):
-                    if a != b:
-                        alike.setdefault(a, set()).add(b)
-    return alike
+    records = r"(?m)^(?:pub )?record [^\n]* where\n((?:  .*\n)+)"
+    bodies = (body for path in top.glob("crates/*/specs/**/*.antt") for body in re.findall(records, path.read_text()))
+    return alike(re.findall(rf"(?m)^  pub ({NAME}) : (.+)$", body) for body in bodies)
 
 
-def other_fields(line, alike):
+def other_fields(line, fields):
     for field in re.finditer(rf"(?<= \.)({NAME})", line):
-        for other in sorted(alike.get(field.group(1), ())):
+        for other in sorted(fields.get(field.group(1), ())):
             yield line[:field.start()] + other + line[field.end():]
 
 
@@ -63,12 +54,12 @@ def swapped(line, variables):
         yield line.replace("true ↦", "• ↦").replace("false ↦", "true ↦").replace("• ↦", "false ↦")
 
 
-def changed(line, variables, alike):
+def changed(line, variables, fields):
     """Each other line that this part of a definition can be changed into."""
     yield from at_each(WORDS, line)
     yield from at_each(SIGNS, line)
     yield from counted_on(line)
-    yield from other_fields(line, alike)
+    yield from other_fields(line, fields)
     yield from one_less(line)
     yield from swapped(line, variables)
 
@@ -114,12 +105,12 @@ def bodies(lines):
 
 def changes(top, crate):
     """Each change of a crate's definitions, with the definition that it is in."""
-    alike = alike_fields(top)
+    fields = alike_fields(top)
     for path in sorted((top / "crates" / crate / "specs").rglob("*.antt")):
         if path.stem in COMPUTED:
             continue
         lines = path.read_text().splitlines()
         for number, name, variables, kept, body in bodies(lines):
-            for new in dict.fromkeys(changed(body, variables, alike)):
+            for new in dict.fromkeys(changed(body, variables, fields)):
                 if new != body:
                     yield Change(str(path.relative_to(top)), number, name, lines[number], kept + new)

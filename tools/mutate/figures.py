@@ -10,6 +10,7 @@ WORDS = {
     "alike": "By a proof's text alone, right when run",
     "text": "By a proof's text alone",
     "accepted": "Accepted",
+    "loose": "Accepted, wrong when run",
 }
 
 

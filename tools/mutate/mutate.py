@@ -5,7 +5,7 @@ small wrong programs, or with --definitions about small wrong definitions.
 A change is of one line and keeps the shape of the code (programs.py) or of the definition (definitions.py). Of each function, constant or
 definition of the named crates, or of all, N changes are tried (1 if it isn't said, all of them if N is 0), but of no crate more than M names;
 the same seed chooses the same. The changed crate is checked in a copy of the repository, which has to be proved (rt prove), and a
-program is run. A line for each change that is accepted, and for each that is refused only because a proof's text no longer fits, with
+program is run. A line for each change that is accepted, and for each that is refused only because a proof's text no longer fits, both with
 what programs that lean on it write when they are run without proof, something wrong or what they should; last the counts. A change that
 is no Rattle or doesn't type is not counted. FILE gets a line for each change.
 
@@ -25,6 +25,7 @@ import programs
 
 MEANINGS = {
     "accepted": "accepted",
+    "loose": "accepted, and wrong when run",
     "text": "refused by a proof's text alone",
     "wrong": "refused by a proof's text alone, and wrong when run",
     "alike": "refused by a proof's text alone, and right when run",
@@ -86,7 +87,7 @@ def main():
             print(f"{MEANINGS[verdict.word]}: {change}", flush=True)
     said = ", ".join(f"{counts[word]} {meaning}" for word, meaning in MEANINGS.items())
     print(f"{sum(counts.values()) - counts['none']} changes: {counts['refused']} refused, {said}; {counts['none']} more were no Rattle")
-    return 1 if counts["accepted"] else 0
+    return 1 if counts["accepted"] + counts["loose"] else 0
 
 
 if __name__ == "__main__":

@@ -5,7 +5,7 @@ each other's place; a store dropped. Contracts, comments and declarations are le
 """
 import re
 
-from change import Change, at_each, counted_on, swapped_words
+from change import Change, alike, at_each, counted_on, swapped_words
 
 ORDER = {" < ": " <= ", " <= ": " < ", " > ": " >= ", " >= ": " > ", " == ": " != ", " != ": " == ", " && ": " || ", " || ": " && "}
 SUMS = {" + ": " - ", " - ": " + ", " * ": " + ", " / ": " * ", " % ": " / "}
@@ -16,18 +16,8 @@ NO_CODE = re.compile(r"\s*(//|ghost |use |requires|ensures|#\[|mod |pub mod |\}$
 
 
 def alike_fields(top):
-    """What a field can be taken for: another of its struct and type."""
-    alike = {}
-    for path in top.glob("crates/*/src/**/*.rt"):
-        for body in re.findall(r"(?s)struct \w+ \{(.*?)\}", path.read_text()):
-            of_type = {}
-            for name, kind in re.findall(rf"({NAME}): ([^,\n]+),", body):
-                of_type.setdefault(kind, []).append(name)
-            for names in of_type.values():
-                for a, b in zip(names, names[1:] + names[:1]):
-                    if a != b:
-                        alike.setdefault(a, set()).add(b)
-    return alike
+    bodies = (body for path in top.glob("crates/*/src/**/*.rt") for body in re.findall(r"(?s)struct \w+ \{(.*?)\}", path.read_text()))
+    return alike(re.findall(rf"({NAME}): ([^,\n]+),", body) for body in bodies)
 
 
 def other_operands(line):
@@ -51,9 +41,9 @@ def swapped_branches(line):
         yield line[:found.start(1)] + found.group(2) + " } else { " + found.group(1) + line[found.end(2):]
 
 
-def other_fields(line, alike):
+def other_fields(line, fields):
     for field in re.finditer(rf"\.({NAME})\b(?!\()", line):
-        for other in sorted(alike.get(field.group(1), ())):
+        for other in sorted(fields.get(field.group(1), ())):
             yield line[:field.start(1)] + other + line[field.end(1):]
 
 
@@ -82,13 +72,13 @@ def parameters_of(head):
     return dict(re.findall(rf"({NAME}): ([^,)]+)", head))
 
 
-def changed(line, alike, parameters):
+def changed(line, fields, parameters):
     """Each other line that this line of code can be changed into."""
     code = line.split("//")[0].rstrip()
     for table in ORDER, SUMS, TRUTHS:
         yield from at_each(table, code)
     yield from counted_on(code)
-    yield from other_fields(code, alike)
+    yield from other_fields(code, fields)
     yield from other_parameters(code, parameters)
     yield from other_operands(code)
     yield from swapped_arguments(code)
@@ -100,7 +90,7 @@ def changed(line, alike, parameters):
 
 def changes(top, crate):
     """Each change of a crate's code, with the function or constant that it is in."""
-    alike = alike_fields(top)
+    fields = alike_fields(top)
     for path in sorted((top / "crates" / crate / "src").rglob("*.rt")):
         name, head, in_head = "", "", False
         for number, line in enumerate(path.read_text().splitlines()):
@@ -116,5 +106,5 @@ def changes(top, crate):
             constant = re.match(r"\s*(?:pub )?const (\w+)", line)
             if NO_CODE.match(line) or not (name or constant):
                 continue
-            for new in dict.fromkeys(changed(line, alike, parameters_of(head))):
+            for new in dict.fromkeys(changed(line, fields, parameters_of(head))):
                 yield Change(str(path.relative_to(top)), number, constant.group(1) if constant else name, line, new)
