@@ -1,4 +1,4 @@
-/* jambtulip.h: the calls of libhost.a for a C host on x86-64 Linux, the structs that cross the border, and how to read the words of the tables. */
+/* jambtulip.h: the calls of libhost.a for a C host on x86-64 Linux, the structs that cross the border, and how to read the words of tables and record lists. */
 #ifndef JAMBTULIP_H
 #define JAMBTULIP_H
 
@@ -136,12 +136,17 @@ JAMBTULIP_ASSERT(offsetof(struct jambtulip_page, end) == 679, "end is at 679");
    A slice is a pointer and a length in elements. The pointer is aligned, good for that many elements, and not null, even where the length is 0.
    What is lent to one call doesn't overlap, and nothing else touches it during the call. A call keeps nothing and allocates nothing.
 
+   Tables and lists of drained records are lent as words, their lengths in words: JAMBTULIP_NODE_WORDS to a row of `nodes`, JAMBTULIP_EDGE_WORDS to a
+   row of `edges`, JAMBTULIP_RECORD_WORDS to a place of `records` and `scratch`. Words behind the last whole row or place are none, and stay as they are.
+   What the words hold before a call never matters. Open records are structs: the length of `list` is in records.
+
    Link with libhost.a, which `rt staticlib host` writes to target/staticlib; it needs memcpy and memset of the C library alone. */
 
-/* Compiles question.root. `found` is written, accepted or refused. Gives 1 to 13. */
+/* Compiles question.root. The drained records stand in the first found->drained places of `records`; refused, `records` stays as it is. `found` is
+   written, accepted or refused. Gives 1 to 13. */
 uint64_t jambtulip_compile(const uint64_t *weights, size_t weights_len, const uint64_t *profits, size_t profits_len,
                            uint64_t *nodes, size_t nodes_len, uint64_t *edges, size_t edges_len,
-                           struct jambtulip_record *records, size_t records_len,
+                           uint64_t *records, size_t records_len,
                            struct jambtulip_question question, struct jambtulip_found *found);
 
 /* Starts a search at that bound: the root record stands in the list's first place. Refused, search and list stay as they are. Gives 1 to 6 and 13. */
@@ -149,23 +154,24 @@ uint64_t jambtulip_start(const uint64_t *weights, size_t weights_len, const uint
                          struct jambtulip_terms terms, int64_t bound,
                          struct jambtulip_record *list, size_t list_len, struct jambtulip_search *search);
 
-/* Picks the open record in that place. Refused, search and list stay as they are. Gives 1 to 9 and 11 to 14. */
+/* Picks the open record in that place. `scratch` is the record list of the pick's compile: the drained records stand in its first places.
+   Refused, search and list stay as they are. Gives 1 to 9 and 11 to 14. */
 uint64_t jambtulip_pick(const uint64_t *weights, size_t weights_len, const uint64_t *profits, size_t profits_len,
                         uint64_t *nodes, size_t nodes_len, uint64_t *edges, size_t edges_len,
-                        struct jambtulip_record *list, size_t list_len, struct jambtulip_record *scratch, size_t scratch_len,
+                        struct jambtulip_record *list, size_t list_len, uint64_t *scratch, size_t scratch_len,
                         struct jambtulip_terms terms, size_t place, struct jambtulip_search *search);
 
 /* Answers a job's text. `page` is written, accepted or refused: a refused job's text is the word refused, a tab, the number and a line feed.
    A text outside the grammar leaves lists and tables as they were. Gives 2 to 6, 11 to 13 and 15; 14 only after 2^64 - 1 picks. */
 uint64_t jambtulip_run_job(const uint8_t *text, size_t text_len,
                            uint64_t *nodes, size_t nodes_len, uint64_t *edges, size_t edges_len,
-                           struct jambtulip_record *list, size_t list_len, struct jambtulip_record *scratch, size_t scratch_len,
+                           struct jambtulip_record *list, size_t list_len, uint64_t *scratch, size_t scratch_len,
                            struct jambtulip_page *page);
 
-/* ---- The words of the tables */
+/* ---- The words of tables and record lists */
 
-/* Words to a row. */
-enum { JAMBTULIP_NODE_WORDS = 8, JAMBTULIP_EDGE_WORDS = 5 };
+/* Words to a row of a table, and to a record. */
+enum { JAMBTULIP_NODE_WORDS = 8, JAMBTULIP_EDGE_WORDS = 5, JAMBTULIP_RECORD_WORDS = 68 };
 
 /* A node's flags. */
 enum { JAMBTULIP_IS_EXACT = 1, JAMBTULIP_IS_RELAXED = 2, JAMBTULIP_IS_MARKED = 4, JAMBTULIP_IS_CUTSET = 8, JAMBTULIP_IS_DELETED = 16 };
@@ -214,6 +220,16 @@ static inline struct jambtulip_edge jambtulip_edge_at(const uint64_t *edges, siz
     const uint64_t *w = edges + row * JAMBTULIP_EDGE_WORDS;
     struct jambtulip_edge e = {w[0], w[1], w[2], w[3], jambtulip_edge_row(w[4])};
     return e;
+}
+
+/* The record in that place of a record list, which has a word for each byte of its path. The caller sees that the list has the place. */
+static inline struct jambtulip_record jambtulip_record_at(const uint64_t *records, size_t place) {
+    const uint64_t *w = records + place * JAMBTULIP_RECORD_WORDS;
+    struct jambtulip_record r = {w[0], jambtulip_i64(w[1]), jambtulip_i64(w[2]), w[3], {0}};
+    for (size_t i = 0; i < sizeof r.path; i++) {
+        r.path[i] = (uint8_t)w[4 + i];
+    }
+    return r;
 }
 
 #ifdef __cplusplus

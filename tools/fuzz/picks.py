@@ -12,7 +12,7 @@ from batches import Batches, run
 from programs import Findings
 
 sys.path.insert(0, str(pathlib.Path(__file__).parent.parent / "search"))  # the jobs have another module `cases`
-from cases import MOST_PLACES, MOST_WORDS, OLD, Call, Old, damaged, others, problem, small
+from cases import MOST_PLACES, MOST_WORDS, NO_TABLES, OLD, Call, Lengths, Old, damaged, others, problem, small
 from lines import answer_line, made, request_line
 from search import NO_SEARCH, PLACES, Ask, Place, Search
 import model
@@ -75,12 +75,12 @@ WAYS = [
     lambda dice, call: call._replace(list=any_places(dice)),
     with_any_place,
     with_other_path,
-    lambda dice, call: call._replace(scratch=[]),
-    lambda dice, call: call._replace(scratch=any_places(dice)),
-    lambda dice, call: call._replace(nodes=dice.choice((0, 7, 8, dice.randrange(MOST_WORDS))), edges=dice.choice((0, 4, 5, dice.randrange(MOST_WORDS)))),
+    lambda dice, call: call._replace(lengths=call.lengths._replace(scratch=0)),
+    lambda dice, call: call._replace(lengths=call.lengths._replace(scratch=dice.choice((67, 68, 69, dice.randrange(MOST_WORDS))))),
+    lambda dice, call: call._replace(lengths=call.lengths._replace(nodes=dice.choice((0, 7, 8, dice.randrange(MOST_WORDS))), edges=dice.choice((0, 4, 5, dice.randrange(MOST_WORDS))))),
     lambda dice, call: call._replace(ask=Ask(any_u64(dice), dice.choice((model.LEL, model.FRONTIER)))),
     lambda dice, call: call._replace(bound=any_i64(dice)),
-    lambda dice, call: call._replace(old=Old(any_u64(dice), any_u64(dice), any_u64(dice))),
+    lambda dice, call: call._replace(old=Old(*(any_u64(dice) for _ in Old._fields))),
     lambda dice, call: call._replace(call="start"),
 ] + [damaged] * 12
 
@@ -106,9 +106,8 @@ def next_pick(dice, blocks, ask, order, left):
     search, places = left.search, left.list
     place = order(search, places) if 0 < search.opened <= len(places) else dice.randrange(4)
     lent = (places[:search.opened] + others(dice.choice((0, 1, 2, 4, 8, 20)), 100))[:MOST_PLACES]
-    scratch = left.scratch if dice.random() < 0.5 else others(dice.choice((0, 1, 2, 4, 8, 20)), 200)
-    nodes, edges = (dice.choice((MOST_WORDS, MOST_WORDS, dice.randrange(400))) for _ in range(2))
-    return Call("pick", "pick", blocks, ask, search.best, search, place, lent, scratch, nodes, edges, dice.choice(OLD))
+    lengths = Lengths(*(dice.choice((MOST_WORDS, MOST_WORDS, dice.randrange(400))) for _ in Lengths._fields))
+    return Call("pick", "pick", blocks, ask, search.best, search, place, lent, lengths, dice.choice(OLD))
 
 
 def sequence(dice):
@@ -116,7 +115,7 @@ def sequence(dice):
     _, blocks, ask, bound, order = small(dice.randrange(1 << 30))
     if dice.random() < 0.2:
         blocks = problem(dice, dice.randint(10, 30), 40, 60)
-    call = Call("start", "start", blocks, ask, bound, NO_SEARCH, 0, others(dice.choice((0, 1, 1, 1, 4))), [], 0, 0, dice.choice(OLD))
+    call = Call("start", "start", blocks, ask, bound, NO_SEARCH, 0, others(dice.choice((0, 1, 1, 1, 4))), NO_TABLES, dice.choice(OLD))
     for _ in range(dice.randint(1, MOST_PICKS)):
         if dice.random() < 0.5:
             bad = hostile(dice, call)

@@ -6,7 +6,7 @@
 
 /* That sizes and offsets are the stated ones is asserted in the header, so that a compiler which lays a struct out otherwise refuses this file. */
 
-enum { ITEMS = 3, NODES = 9, EDGES = 12, RECORDS = 2 };
+enum { ITEMS = 3, NODES = 9, EDGES = 12, RECORDS = 2, SCRATCH_WORDS = RECORDS * JAMBTULIP_RECORD_WORDS };
 
 static const uint64_t weights[ITEMS] = {1, 1, 1};
 static const uint64_t profits[ITEMS] = {4, 3, 2};
@@ -14,7 +14,7 @@ static const uint64_t profits[ITEMS] = {4, 3, 2};
 static uint64_t nodes[NODES * JAMBTULIP_NODE_WORDS];
 static uint64_t edges[EDGES * JAMBTULIP_EDGE_WORDS];
 static struct jambtulip_record list[RECORDS];
-static struct jambtulip_record scratch[RECORDS];
+static uint64_t scratch[SCRATCH_WORDS];
 
 static unsigned held;
 static unsigned failed;
@@ -105,41 +105,48 @@ static void test_found(const struct jambtulip_found *found) {
     test_layers(found);
 }
 
-static void test_record(const struct jambtulip_record *is, uint64_t capacity, int64_t value, int64_t bound, const char *path) {
-    same("a record's capacity", (int64_t)is->capacity, (int64_t)capacity);
-    same("a record's value", is->value, value);
-    same("a record's bound", is->bound, bound);
-    same("a record's depth", (int64_t)is->depth, 1);
-    same_path("a record's path", is->path, path);
+static void test_record(struct jambtulip_record is, uint64_t capacity, int64_t value, int64_t bound, const char *path) {
+    same("a record's capacity", (int64_t)is.capacity, (int64_t)capacity);
+    same("a record's value", is.value, value);
+    same("a record's bound", is.bound, bound);
+    same("a record's depth", (int64_t)is.depth, 1);
+    same_path("a record's path", is.path, path);
 }
 
-static uint64_t compile(struct jambtulip_question question, struct jambtulip_found *found) {
+/* The two records that the root's diagram drains: one takes item 0, the other's path is 0 and skips it. */
+static void test_records(struct jambtulip_record first, struct jambtulip_record second) {
+    test_record(first, 1, 4, 9, "\1");
+    test_record(second, 2, 0, 5, "");
+}
+
+/* Case H at that width, with so many words of record list. All that is to be written holds other bytes before. */
+static uint64_t compile(uint64_t width, size_t words, struct jambtulip_found *found) {
+    struct jambtulip_question question = {2, width, JAMBTULIP_RELAXED, JAMBTULIP_LAST_EXACT_LAYER, INT64_MIN, {2, 0, INT64_MAX, 0, {0}}};
+    memset(found, 0xaa, sizeof *found);
+    memset(scratch, 0xaa, sizeof scratch);
     return jambtulip_compile(weights, ITEMS, profits, ITEMS, nodes, NODES * JAMBTULIP_NODE_WORDS, edges, EDGES * JAMBTULIP_EDGE_WORDS,
-                             list, RECORDS, question, found);
+                             scratch, words, question, found);
 }
 
-/* A compile, its answer, both tables and the record list. All that is to be written holds other bytes before. */
+/* A compile, its answer, both tables and the record list. */
 static void test_compile(void) {
-    struct jambtulip_question question = {2, 1, JAMBTULIP_RELAXED, JAMBTULIP_LAST_EXACT_LAYER, INT64_MIN, {2, 0, INT64_MAX, 0, {0}}};
     struct jambtulip_found found;
-    memset(&found, 0xaa, sizeof found);
-    memset(list, 0xaa, sizeof list);
-    same("compile", (int64_t)compile(question, &found), 0);
+    same("compile", (int64_t)compile(1, SCRATCH_WORDS, &found), 0);
     test_found(&found);
     test_nodes();
     test_edges();
-    test_record(&list[0], 1, 4, 9, "\1");
-    test_record(&list[1], 2, 0, 5, ""); /* the path 0 skips item 0 */
+    test_records(jambtulip_record_at(scratch, 0), jambtulip_record_at(scratch, 1));
 }
 
-/* A refused compile: its number, and an answer that is all 0. */
-static void test_refusal(void) {
+/* A refused compile: its number, an answer that is all 0, and a record list that is as before. */
+static void test_refusal(uint64_t width, size_t words, uint64_t number) {
     static const struct jambtulip_found nothing;
-    struct jambtulip_question question = {2, 257, JAMBTULIP_RELAXED, JAMBTULIP_LAST_EXACT_LAYER, INT64_MIN, {2, 0, INT64_MAX, 0, {0}}};
+    uint64_t before[SCRATCH_WORDS];
     struct jambtulip_found found;
-    memset(&found, 0xaa, sizeof found);
-    same("a refused compile", (int64_t)compile(question, &found), 6);
+    memset(before, 0xaa, sizeof before);
+    same("a refused compile", (int64_t)compile(width, words, &found), (int64_t)number);
     same("its answer", memcmp(&found, &nothing, sizeof found), 0);
+    same("its record list", memcmp(scratch, before, sizeof before), 0);
 }
 
 static void test_search_is(const struct jambtulip_search *is, int64_t best, uint64_t holds, const char *path, size_t opened, uint64_t picks) {
@@ -153,7 +160,7 @@ static void test_search_is(const struct jambtulip_search *is, int64_t best, uint
 static uint64_t pick(size_t place, struct jambtulip_search *search) {
     struct jambtulip_terms terms = {2, 1, JAMBTULIP_LAST_EXACT_LAYER};
     return jambtulip_pick(weights, ITEMS, profits, ITEMS, nodes, NODES * JAMBTULIP_NODE_WORDS, edges, EDGES * JAMBTULIP_EDGE_WORDS,
-                          list, RECORDS, scratch, RECORDS, terms, place, search);
+                          list, RECORDS, scratch, SCRATCH_WORDS, terms, place, search);
 }
 
 /* The search of case R: the root opens two records, the first of them holds the optimum, the second can't beat it. */
@@ -165,6 +172,7 @@ static void test_search(void) {
     test_search_is(&search, INT64_MIN, 0, "", 1, 0);
     same("a pick", (int64_t)pick(0, &search), 0);
     test_search_is(&search, INT64_MIN, 0, "", 2, 1);
+    test_records(list[0], list[1]);
     same("a pick of no record", (int64_t)pick(2, &search), 14);
     test_search_is(&search, INT64_MIN, 0, "", 2, 1);
     same("a pick", (int64_t)pick(0, &search), 0);
@@ -179,7 +187,7 @@ static void test_job(const char *text, uint64_t number, const char *answer) {
     memcpy(due.bytes, answer, due.count);
     memset(&page, 0xaa, sizeof page);
     same("run_job", (int64_t)jambtulip_run_job((const uint8_t *)text, strlen(text), nodes, NODES * JAMBTULIP_NODE_WORDS,
-                                               edges, EDGES * JAMBTULIP_EDGE_WORDS, list, RECORDS, scratch, RECORDS, &page), (int64_t)number);
+                                               edges, EDGES * JAMBTULIP_EDGE_WORDS, list, RECORDS, scratch, SCRATCH_WORDS, &page), (int64_t)number);
     same("the page", memcmp(&page, &due, sizeof page), 0);
 }
 
@@ -191,7 +199,8 @@ static void test_jobs(void) {
 
 int main(void) {
     test_compile();
-    test_refusal();
+    test_refusal(257, SCRATCH_WORDS, 6);
+    test_refusal(1, SCRATCH_WORDS - 1, 13); /* a word short of two places */
     test_search();
     test_jobs();
     printf("%u figures agree, %u differ\n", held, failed);

@@ -6,7 +6,7 @@
 
 /* What the program `page` lends, document 01's sizes, in rows and places. */
 enum { NODE_ROWS = 1024, EDGE_ROWS = 1792, OPEN_PLACES = 384, SCRATCH_PLACES = 128 };
-enum { NODE_WORDS = NODE_ROWS * JAMBTULIP_NODE_WORDS, EDGE_WORDS = EDGE_ROWS * JAMBTULIP_EDGE_WORDS };
+enum { NODE_WORDS = NODE_ROWS * JAMBTULIP_NODE_WORDS, EDGE_WORDS = EDGE_ROWS * JAMBTULIP_EDGE_WORDS, SCRATCH_WORDS = SCRATCH_PLACES * JAMBTULIP_RECORD_WORDS };
 
 /* The refusal of a text outside the grammar. */
 enum { NO_JOB = 15 };
@@ -14,7 +14,7 @@ enum { NO_JOB = 15 };
 static uint64_t nodes[NODE_WORDS];
 static uint64_t edges[EDGE_WORDS];
 static struct jambtulip_record list[OPEN_PLACES];
-static struct jambtulip_record scratch[SCRATCH_PLACES];
+static uint64_t scratch[SCRATCH_WORDS];
 
 /* The place to pick: the largest bound, the lowest place on a tie. */
 static size_t largest_bound(size_t opened) {
@@ -32,7 +32,7 @@ static uint64_t pick_all(const struct job *job, struct jambtulip_search *search)
     uint64_t refused = 0;
     while (refused == 0 && search->opened > 0) {
         refused = jambtulip_pick(job->weights, job->items, job->profits, job->items, nodes, NODE_WORDS, edges, EDGE_WORDS,
-                                 list, OPEN_PLACES, scratch, SCRATCH_PLACES, job->terms, largest_bound(search->opened), search);
+                                 list, OPEN_PLACES, scratch, SCRATCH_WORDS, job->terms, largest_bound(search->opened), search);
     }
     return refused;
 }
@@ -71,7 +71,7 @@ static void answer(const uint8_t *text, size_t length) {
 /* Answers by the library alone. */
 static void answer_whole(const uint8_t *text, size_t length) {
     struct jambtulip_page page;
-    jambtulip_run_job(text, length, nodes, NODE_WORDS, edges, EDGE_WORDS, list, OPEN_PLACES, scratch, SCRATCH_PLACES, &page);
+    jambtulip_run_job(text, length, nodes, NODE_WORDS, edges, EDGE_WORDS, list, OPEN_PLACES, scratch, SCRATCH_WORDS, &page);
     fwrite(page.bytes, 1, page.count, stdout);
 }
 

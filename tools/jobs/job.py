@@ -6,7 +6,7 @@ from collections import namedtuple
 
 sys.dont_write_bytecode = True
 sys.path.append(str(pathlib.Path(__file__).parent.parent / "search"))
-from search import Ask, Blocks, Place, model, padded, pick, start
+from search import Ask, Blocks, Place, Rooms, model, padded, pick, start
 
 Sizes = namedtuple("Sizes", "nodes edges scratch list")
 DOCUMENT = Sizes(1_024, 1_792, 128, 384)  # what the program of document 01 lends
@@ -48,10 +48,10 @@ def answer(text, sizes=DOCUMENT, pick=pick):
     begun = start(blocks, width, model.I64_MIN, [empty] * sizes.list)
     if begun.number:
         return refused(begun.number)
-    search, places, scratch = begun.search, begun.list, [empty] * sizes.scratch
+    search, places, rooms = begun.search, begun.list, Rooms(sizes.nodes, sizes.edges, sizes.scratch)
     while search.opened:
         place = max(range(search.opened), key=lambda i: (places[i].bound, -i))
-        done = pick(blocks, Ask(width, cut), search, place, places, scratch, sizes.nodes, sizes.edges)
+        done = pick(blocks, Ask(width, cut), search, place, places, rooms)
         if done.number:
             return refused(done.number)
         search, places = done.search, done.list

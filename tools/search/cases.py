@@ -2,17 +2,18 @@
 import random
 from collections import namedtuple
 
-from search import NO_SEARCH, Ask, Blocks, Place, pick, start
+from search import EDGE_WORDS, NODE_WORDS, NO_SEARCH, RECORD_WORDS, Ask, Blocks, Place, Rooms, pick, start
 import model
 
-AMPLE = 1 << 12  # rows
+AMPLE = 1 << 12  # rows and places
 MOST_PLACES = 64  # that crates/search_replay can lend
 MOST_WORDS = 16_384
 
-# call is 'start' or 'pick'; nodes and edges are words lent
-Call = namedtuple("Call", "sort call blocks ask bound search place list scratch nodes edges old")
-Old = namedtuple("Old", "nodes edges step")  # the first word of each table before the call; each further word is a step more
-OLD = [Old(0, 0, 0), Old(1, 2, 3), Old(2**64 - 1, 2**64 - 1, 0), Old(2**63, 12345, 2**61 + 1)]
+Call = namedtuple("Call", "sort call blocks ask bound search place list lengths old")  # call is 'start' or 'pick'
+Lengths = namedtuple("Lengths", "nodes edges scratch")  # words lent
+Old = namedtuple("Old", "nodes edges scratch step")  # the first word of each table before the call; each further word is a step more
+NO_TABLES = Lengths(0, 0, 0)
+OLD = [Old(0, 0, 0, 0), Old(1, 2, 4, 3), Old(2**64 - 1, 2**64 - 1, 2**64 - 1, 0), Old(2**63, 12345, 7, 2**61 + 1)]
 T = Blocks((1, 1, 1), (4, 3, 2), 2)
 
 
@@ -51,43 +52,50 @@ def orders(seed):
 
 def needed(blocks, ask, search, place, places):
     """The rows, scratch places and list places that a pick needs, with its outcome where all are there."""
-    ample = others(AMPLE)
-    done = pick(blocks, ask, search, place, places + ample, ample, AMPLE, AMPLE)
-    drained = next((i for i in range(AMPLE) if done.scratch[i] == ample[i]), AMPLE)
-    return len(done.nodes), len(done.edges), drained, max(search.opened, done.search.opened), done
+    done = pick(blocks, ask, search, place, places + others(AMPLE), Rooms(AMPLE, AMPLE, AMPLE))
+    return Rooms(len(done.nodes), len(done.edges), len(done.drained)), max(search.opened, done.search.opened), done
 
 
-def rooms_of(need, sort):
-    """Node rows, edge rows, scratch places and list places: (name, rooms) for each way to lend."""
-    nodes, edges, scratch, places = need
-    yield "just enough", (nodes, edges, scratch, places)
+def words_of(rooms, spare):
+    """The words of so many rows and places, with spare ones that are no row."""
+    return Lengths(rooms.nodes * NODE_WORDS + spare % NODE_WORDS, rooms.edges * EDGE_WORDS + spare % EDGE_WORDS, rooms.scratch * RECORD_WORDS)
+
+
+def lent_of(rooms, places, spare, sort):
+    """Words of tables and scratch list, and list places: (name, words, places) for each way to lend."""
+    enough = words_of(rooms, spare)
+    yield "just enough", enough, places
     if sort == "all":
-        yield "ample", (nodes + 3, edges + 2, scratch + 2, places + 2)
-        if nodes:
-            yield "a node row short", (nodes - 1, edges, scratch, places)
-        if edges:
-            yield "an edge row short", (nodes, edges - 1, scratch, places)
-        if scratch:
-            yield "a scratch place short", (nodes, edges, scratch - 1, places)
-        yield "a list place short", (nodes, edges, scratch, places - 1)
+        nodes, edges, scratch = enough
+        yield "ample", Lengths(nodes + 3 * NODE_WORDS, edges + 2 * EDGE_WORDS, scratch + 2 * RECORD_WORDS), places + 2
+        yield "a scratch word more", enough._replace(scratch=scratch + 1), places
+        if rooms.nodes:
+            yield "a node row short", enough._replace(nodes=nodes - NODE_WORDS), places
+        if rooms.edges:
+            yield "an edge row short", enough._replace(edges=edges - EDGE_WORDS), places
+        if rooms.scratch:
+            yield "a scratch place short", enough._replace(scratch=scratch - RECORD_WORDS), places
+            yield "a scratch word short", enough._replace(scratch=scratch - 1), places
+        yield "a list place short", enough, places - 1
 
 
 def calls_of(name, blocks, ask, bound, order, most_picks, rooms="all"):
     """The start, then every pick that the order makes, each lent in several ways; the search goes on as where all is enough."""
     begun = start(blocks, ask.width, bound, others(1))
     for count in (0, 1, 3) if rooms == "all" else (1,):
-        yield Call(f"{name}: start", "start", blocks, ask, bound, NO_SEARCH, 0, others(count), [], 0, 0, OLD[count % 4])
+        yield Call(f"{name}: start", "start", blocks, ask, bound, NO_SEARCH, 0, others(count), NO_TABLES, OLD[count % 4])
     search, places = begun.search, begun.list
     turn = 0
     while begun.number == 0 and search.opened and turn < most_picks:
         place = order(search, places)
-        nodes, edges, scratch, count, done = needed(blocks, ask, search, place, places[:search.opened])
-        if scratch + 2 > MOST_PLACES or count + 2 > MOST_PLACES or (nodes + 3) * 8 > MOST_WORDS or (edges + 2) * 5 > MOST_WORDS:
+        need, count, done = needed(blocks, ask, search, place, places[:search.opened])
+        lent = list(lent_of(need, count, turn, rooms))
+        if any(p > MOST_PLACES or max(lengths) > MOST_WORDS for _, lengths, p in lent):
             return
-        for how, (n, e, s, p) in rooms_of((nodes, edges, scratch, count), rooms):
+        for how, lengths, p in lent:
             held = (places[:search.opened] + others(p, 100))[:p]
-            old = OLD[(turn + n + s) % 4]
-            yield Call(f"{name}: pick, {how}", "pick", blocks, ask, search.best, search, place, held, others(s, 200), n * 8 + turn % 8, e * 5 + turn % 5, old)
+            old = OLD[(turn + sum(lengths)) % 4]
+            yield Call(f"{name}: pick, {how}", "pick", blocks, ask, search.best, search, place, held, lengths, old)
         search, places = done.search, done.list
         turn += 1
 
@@ -132,6 +140,7 @@ def damaged(dice, call):
         lambda: call._replace(search=search._replace(picks=dice.choice((2**64 - 1, 2**64 - 2)))),
         lambda: call._replace(search=search._replace(best=dice.choice((model.I64_MIN, model.I64_MAX, 0)))),
         lambda: call._replace(list=call.list[:-1]),
+        lambda: call._replace(lengths=call.lengths._replace(scratch=dice.choice((0, 1, 67, 68, 69, 135, min(call.lengths.scratch + 67, MOST_WORDS))))),
         lambda: call._replace(ask=call.ask._replace(width=dice.choice((0, 257, 256, 2**64 - 1)))),
         lambda: call._replace(blocks=call.blocks._replace(page=dice.choice((65_536, 65_535, call.blocks.page + 1)))),
         lambda: call._replace(blocks=call.blocks._replace(weights=call.blocks.weights + (1,))),

@@ -1,5 +1,5 @@
 """The lines of crates/search_replay: a call as its request, and the answer that is due by the model. README.md has the format."""
-from search import EDGE_WORDS, NODE_WORDS, Picked, edge_words, node_words, pick, place_words, start, word
+from search import EDGE_WORDS, NODE_WORDS, RECORD_WORDS, Picked, Rooms, edge_words, node_words, pick, place_words, start, word
 import model
 
 CUTS = {model.LEL: 0, model.FRONTIER: 1}
@@ -23,35 +23,39 @@ def request_line(call):
         s.opened,
         s.picks,
         call.place,
-        call.nodes,
-        call.edges,
         len(call.list),
-        len(call.scratch),
+        *call.lengths,
         *call.old,
     ]
-    lists = [number for place in call.list + call.scratch for number in place_words(place)]
-    return line([*head, *call.blocks.weights, *call.blocks.profits, *s.path, *lists])
+    return line([*head, *call.blocks.weights, *call.blocks.profits, *s.path, *words_of(place_words, call.list)])
 
 
-def left(words_of, rows, first, step):
-    """A table after the rows were written: the number of words up to the last that isn't as before, and these words."""
-    words = [number for row in rows for number in words_of(row)]
+def words_of(one, rows):
+    return [number for row in rows for number in one(row)]
+
+
+def left(words, first, step):
+    """A table after the words were written: the number of words up to the last that isn't as before, and these words."""
     while words and words[-1] == (first + (len(words) - 1) * step) % 2**64:
         words.pop()
     return [len(words), *words]
+
+
+def rooms_of(lengths):
+    """The whole rows and places of so many words."""
+    return Rooms(lengths.nodes // NODE_WORDS, lengths.edges // EDGE_WORDS, lengths.scratch // RECORD_WORDS)
 
 
 def made(call):
     """What the call answers and leaves."""
     if call.call == "start":
         number, search, places = start(call.blocks, call.ask.width, call.bound, call.list)
-        return Picked(number, search, places, call.scratch, (), ())
-    rows = call.nodes // NODE_WORDS, call.edges // EDGE_WORDS
-    return pick(call.blocks, call.ask, call.search, call.place, call.list, call.scratch, *rows)
+        return Picked(number, search, places, (), (), ())
+    return pick(call.blocks, call.ask, call.search, call.place, call.list, rooms_of(call.lengths))
 
 
 def answer_line(call):
-    number, s, places, scratch, nodes, edges = made(call)
-    lists = [number for place in places + scratch for number in place_words(place)]
-    tables = left(node_words, nodes, call.old.nodes, call.old.step) + left(edge_words, edges, call.old.edges, call.old.step)
-    return line([number, word(s.best), int(s.held), s.opened, s.picks, *s.path, *lists, *tables])
+    number, s, places, *written = made(call)
+    tables = zip((node_words, edge_words, place_words), written, call.old)
+    after = [number for one, rows, first in tables for number in left(words_of(one, rows), first, call.old.step)]
+    return line([number, word(s.best), int(s.held), s.opened, s.picks, *s.path, *words_of(place_words, places), *after])

@@ -15,8 +15,8 @@ from search import Ask
 import model
 
 DUE = {0, 1, 2, 3, 4, 5, 6, 7, 8, 9, 11, 12, 13, 14}  # 10 needs a layer of 1,024 rows: crates/replay has it
-SORTS = ("best bound", "worst bound", "first", "last", "random with seed", "just enough", "ample", "a node row short", "an edge row short", "a scratch place short", "a list place short")
-HOSTILE = 60
+SORTS = ("best bound", "worst bound", "first", "last", "random with seed", "just enough", "ample", "a node row short", "an edge row short", "a scratch place short", "a scratch word short", "a scratch word more", "a list place short")
+HOSTILE = 80
 LONGEST = 4000  # bytes of an answer
 
 

@@ -9,14 +9,15 @@ import model
 
 PLACES = 64  # of a path
 MOST_PICKS = 2**64 - 1
-NODE_WORDS, EDGE_WORDS = 8, 5
+NODE_WORDS, EDGE_WORDS, RECORD_WORDS = 8, 5, 68
 
 Search = namedtuple("Search", "best held path opened picks")
 Place = namedtuple("Place", "capacity value bound depth path")  # the path with all its places
 Blocks = namedtuple("Blocks", "weights profits page")
 Ask = namedtuple("Ask", "width cut")
 Started = namedtuple("Started", "number search list")
-Picked = namedtuple("Picked", "number search list scratch nodes edges")  # rows written
+Rooms = namedtuple("Rooms", "nodes edges scratch")  # the rows and scratch places that a pick is lent
+Picked = namedtuple("Picked", "number search list nodes edges drained")  # rows and records written
 NO_SEARCH = Search(0, False, (0,) * PLACES, 0, 0)
 
 
@@ -64,10 +65,10 @@ def start(blocks, width, bound, places):
     return Started(0, Search(bound, False, padded(()), 1, 0), [root] + places[1:])
 
 
-def pick(blocks, ask, search, place, places, scratch, node_rows, edge_rows):
-    """The pick of a place: places and scratch are the lent lists, whole."""
-    def refused(number, scratch=scratch, nodes=(), edges=()):
-        return Picked(number, search, places, scratch, nodes, edges)
+def pick(blocks, ask, search, place, places, rooms):
+    """The pick of a place: places are the lent list, whole."""
+    def refused(number, nodes=(), edges=(), drained=()):
+        return Picked(number, search, places, nodes, edges, drained)
 
     number = of_problem(blocks, ask.width)
     if number:
@@ -80,28 +81,27 @@ def pick(blocks, ask, search, place, places, scratch, node_rows, edge_rows):
         return refused(number)
     rest = places[:place] + places[place + 1:search.opened]
     if record.bound <= search.best:
-        return accepted(search, rest, places, scratch, (), ())
+        return accepted(search, rest, places, (), (), ())
     items = list(zip(blocks.weights, blocks.profits))
     root = model.Record(record.capacity, record.value, record.bound, record.depth, tuple(record.path[:record.depth]))
-    d = model.compile(items, blocks.page, model.RELAXED, ask.width, ask.cut, search.best, root, node_rows, edge_rows)
+    d = model.compile(items, blocks.page, model.RELAXED, ask.width, ask.cut, search.best, root, rooms.nodes, rooms.edges)
     if d.refusal:
-        return refused(d.refusal, scratch, d.nodes, d.edges)
-    if len(d.drained) > len(scratch):
-        return refused(13, scratch, d.nodes, d.edges)
+        return refused(d.refusal, d.nodes, d.edges)
+    if len(d.drained) > rooms.scratch:
+        return refused(13, d.nodes, d.edges)
     drained = [Place(r.capacity, r.value, r.bound, r.depth, padded(r.path)) for r in d.drained]
-    after = drained + scratch[len(drained):]
     found = search
     if d.best_exact is not None and d.best_exact > search.best:
         found = search._replace(best=d.best_exact, held=True, path=padded(d.exact_path))
     left = rest + ([] if d.exact else [r for r in drained if r.bound > found.best])
     if len(left) > len(places):
-        return refused(13, after, d.nodes, d.edges)
-    return accepted(found, left, places, after, d.nodes, d.edges)
+        return refused(13, d.nodes, d.edges, drained)
+    return accepted(found, left, places, d.nodes, d.edges, drained)
 
 
-def accepted(search, left, places, scratch, nodes, edges):
+def accepted(search, left, places, nodes, edges, drained):
     after = search._replace(opened=len(left), picks=search.picks + 1)
-    return Picked(0, after, left + places[len(left):], scratch, nodes, edges)
+    return Picked(0, after, left + places[len(left):], nodes, edges, drained)
 
 
 # ---- Rows as words
@@ -133,7 +133,7 @@ def self_test():
     begun = start(blocks, 1, model.I64_MIN, [empty] * 4)
     search, places = begun.search, begun.list
     for _ in range(3):
-        done = pick(blocks, ask, search, 0, places, [empty] * 4, 64, 64)
+        done = pick(blocks, ask, search, 0, places, Rooms(64, 64, 4))
         assert done.number == 0
         search, places = done.search, done.list
     assert (search.best, search.opened, search.picks, search.path[:4]) == (7, 0, 3, (1, 4, 3, 0))

@@ -16,7 +16,7 @@ use Rattle.finalize.specs.declared.Value.the-variants.{Is, Missing}
 use Rattle.compile.specs.declared.Answer.{Answer}
 use Rattle.search.specs.declared.Search.{Search}
 use Rattle.search.specs.declared.Ask.{Ask}
-use Rattle.compile_records.specs.declared.Query.{Query}
+use Rattle.query.specs.declared.Query.{Query}
 use Rattle.border.specs.declared.Terms.{Terms}
 use Rattle.border.specs.declared.Question.{Question}
 use Rattle.border.specs.declared.Found.{Found}

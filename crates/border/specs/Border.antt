@@ -12,7 +12,7 @@ use Rattle.grow.specs.declared.Mode.the-variants.{Exact, Restricted, Relaxed}
 use Rattle.finalize.specs.declared.Value.{Value}
 use Rattle.finalize.specs.declared.Value.the-variants.{Is, Missing}
 use Rattle.compile.specs.declared.Answer.{Answer}
-use Rattle.compile_records.specs.declared.Query.{Query}
+use Rattle.query.specs.declared.Query.{Query}
 use Rattle.search.specs.declared.Ask.{Ask}
 use Rattle.search.specs.declared.Search.{Search}
 use Rattle.jobs.specs.Run.{Ending, refused, ended}

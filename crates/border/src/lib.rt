@@ -2,11 +2,11 @@
 ghost use mathlib.Core.Path.{_≡_};
 ghost use Rattle.border.specs.Border.{numberOf, kindIn, modeIn, flagOf, flagIn, hasOf, valueOf, askIn, queryIn, searchIn, hostSearchOf, hostSearchAfter, foundOf, shownOf};
 use compile::Answer;
-use compile_records::Query;
 use cutset::Kind;
 use finalize::Value;
 use grow::Mode;
 use page_text::Output;
+use query::Query;
 use records::Record;
 use refusals::Verdict;
 use search::Ask;

@@ -20,6 +20,7 @@ use Rattle.layout.proofs.Rows.{node-width, edge-width}
 use Rattle.layout.proofs.Records.{record-length}
 use Rattle.layout.proofs.Table.{length-words}
 use Rattle.theorems.proofs.Fits.{Fits, FitRun, refusal, outcome-is, run-fits}
+use Rattle.theorems.proofs.Path.{Valid}
 use Rattle.theorems.proofs.Runs.{compiled as finished-run}
 use Rattle.theorems.proofs.Leads.{run-drains}
 use Rattle.calls.specs.Asked.{itemsIn, recordOf}
@@ -67,9 +68,6 @@ drained-none : (m : Mode) (k : CutsetKind) (d : Diagram) (path : List ℕ) → m
 unfolding drained
 drained-none m k d path h = drain-none _ path (outcome m k d) (cutset-none m k d h)
 
-none-short : (rs : List Record) → rs ≡ [] → Short rs
-none-short rs e r m = absurd (List·Memᴰ·not-nil (subst (λ (l : List Record). List·Memᴰ r l) e m))
-
 by-mode : (P : Mode → Type 0) (m : Mode) → (m ≢ relaxing → P m) → (m ≡ relaxing → P m) → P m
 by-mode P exactly f g = f (λ e. let z : _≡_ {A = ℕ} 0 1 = cc in omega arith)
 by-mode P restricted f g = f (λ e. let z : _≡_ {A = ℕ} 0 1 = cc in omega arith)
@@ -79,22 +77,24 @@ by-mode P relaxing f g = g refl
 abbrev Runs : Request → Rooms → Outcome → Type 0
 Runs q m o = run (settingsOf q m) (q .kind) (itemsIn (q .problem)) (recordOf (q .given)) ≡ finished o
 
-drained-in : (q : Request) (m : Rooms) (o : Outcome) → Accepted (q .problem) (q .given) → Runs q m o → settingsOf q m .mode ≡ relaxing → Short (drained (recordOf (q .given) .path) o)
-drained-in q m o a e h r i =
-    let v = run-drains (itemsIn (q .problem)) (a .small) (a .few) (settingsOf q m) h (q .kind) (recordOf (q .given)) o e (q .problem .page) (a .valid) r i .0 in
-    omega (arith, v .long, v .deep, a .few)
+drained-in : (q : Request) (m : Rooms) (o : Outcome) → Accepted (q .problem) (q .given) → Runs q m o → settingsOf q m .mode ≡ relaxing → (r : Record) → List·Memᴰ r (drained (recordOf (q .given) .path) o) → Valid (itemsIn (q .problem)) (q .problem .page) r
+drained-in q m o a e h r i = run-drains (itemsIn (q .problem)) (a .small) (a .few) (settingsOf q m) h (q .kind) (recordOf (q .given)) o e (q .problem .page) (a .valid) r i .0
 
-drained-out : (q : Request) (m : Rooms) (o : Outcome) → Runs q m o → settingsOf q m .mode ≢ relaxing → Short (drained (recordOf (q .given) .path) o)
+drained-out : (q : Request) (m : Rooms) (o : Outcome) → Runs q m o → settingsOf q m .mode ≢ relaxing → drained (recordOf (q .given) .path) o ≡ []
 drained-out q m o e h =
     let c = finished-run (itemsIn (q .problem)) (settingsOf q m) (q .kind) (recordOf (q .given)) o e in
-    none-short _ (ap (drained (recordOf (q .given) .path)) (c .is-outcome) ∙ drained-none (settingsOf q m .mode) (q .kind) (c .tables) _ h)
+    ap (drained (recordOf (q .given) .path)) (c .is-outcome) ∙ drained-none (settingsOf q m .mode) (q .kind) (c .tables) _ h
+
+-- each drained record passes 7 to 9
+pub drained-valid : (q : Request) (m : Rooms) (o : Outcome) → compileRefusal (q .problem) (q .given) ≡ none → runOf q m ≡ finished o → (r : Record) → List·Memᴰ r (drained (q .given .path) o) → Valid (itemsIn (q .problem)) (q .problem .page) r
+unfolding runOf recordOf
+drained-valid q m o c e r i =
+    by-mode (λ _. Valid (itemsIn (q .problem)) (q .problem .page) r) (settingsOf q m .mode)
+    (λ h. absurd (List·Memᴰ·not-nil (subst (λ (l : List Record). List·Memᴰ r l) (drained-out q m o e h) i)))
+    (λ h. drained-in q m o (accepted (q .problem) (q .given) c) e h r i)
 
 pub drained-short : (q : Request) (m : Rooms) (o : Outcome) → compileRefusal (q .problem) (q .given) ≡ none → runOf q m ≡ finished o → Short (drained (q .given .path) o)
-unfolding runOf recordOf
-drained-short q m o c e =
-    by-mode (λ _. Short (drained (recordOf (q .given) .path) o)) (settingsOf q m .mode)
-    (λ h. drained-out q m o e h)
-    (λ h. drained-in q m o (accepted (q .problem) (q .given) c) e h)
+drained-short q m o c e r i = let v = drained-valid q m o c e r i in omega (arith, v .long, v .deep, accepted (q .problem) (q .given) c .few)
 
 -- ---- rows
 
@@ -115,7 +115,7 @@ request-fits q m = run-fits (settingsOf q m) (q .kind) (itemsIn (q .problem)) (r
 pub record InTables (l : Lent) (x : Effect) : Type 0 where
   pub nodes : length (x .nodes) ≤ length (l .nodes)
   pub edges : length (x .edges) ≤ length (l .edges)
-  pub records : length (x .records) ≤ length (l .records)
+  pub records : length (recordTable (x .drained)) ≤ length (l .records)
 
 nodes-in : (l : Lent) (d : Diagram) → Fits (roomsOf l .nodes) (roomsOf l .edges) d → length (nodeTable (d .nodes)) ≤ length (l .nodes)
 unfolding roomsOf
@@ -135,7 +135,7 @@ no-words l = omega arith
 
 view-in : (q : Request) (l : Lent) {x : Effect} → View q (roomsOf l) x → InTables l x
 unfolding effect
-view-in q l (early n e) = record { nodes = omega arith; edges = omega arith; records = omega arith }
+view-in q l (early n e) = record { nodes = omega arith; edges = omega arith; records = no-words l }
 view-in q l (halted n d e f) =
     let g = stopped-fits _ _ n d _ (request-fits q (roomsOf l)) f in
     record { nodes = nodes-in l d g; edges = edges-in l d g; records = no-words l }

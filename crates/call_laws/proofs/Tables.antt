@@ -12,6 +12,7 @@ use Rattle.diagram.specs.After6.{Outcome, drained, refused as stoppedAt, finish
 use Rattle.layout.specs.Table.{wordsOf, over}
 use Rattle.layout.specs.Rows.{nodeTable, edgeTable}
 use Rattle.layout.specs.Records.{recordTable}
+use Rattle.layout.proofs.Records.{over-none}
 use Rattle.theorems.proofs.Fits.{Stop, ten, eleven, twelve, outcome-long}
 use Rattle.theorems.proofs.Links.{Wired, grown-wired, parent-smaller}
 use Rattle.theorems.proofs.Rooms.{withRooms, run-more-room}
@@ -32,7 +33,7 @@ one-answer q l = (compile q l, refl, λ b e. sym e)
 
 -- the words of an effect
 abbrev wordsIn : Effect → Words
-wordsIn x = record { nodes = x .nodes; edges = x .edges; records = x .records }
+wordsIn x = record { nodes = x .nodes; edges = x .edges; records = recordTable (x .drained) }
 
 -- A compile lays its effect's words over the tables.
 compile-writes : (q : Request) (l : Lent) → Writes q l (wordsIn (compileEffect q (roomsOf l)))
@@ -91,14 +92,6 @@ more-room-changes-nothing q l l′ c e r =
 
 -- ---- what stands there
 
-over-none : (old : List ℕ) → over [] old ≡ old
-unfolding over
-over-none old = refl
-
-over-no-record : (old : List ℕ) → over (recordTable []) old ≡ old
-unfolding over recordTable wordsOf
-over-no-record old = refl
-
 -- a run's number is past 9
 late : {n : ℕ} → Stop n → (10 ≤ n) × (n ≤ 12)
 late ten = omega arith
@@ -109,7 +102,7 @@ same-number : (i j : ℕ) → refused i ≡ refused j → i ≡ j
 same-number i j e = cc
 
 early-view : (q : Request) (l : Lent) (n : ℕ) {x : Effect} → View q (roomsOf l) x → x .answer ≡ refused n → n ≤ 9 → after x l .lent ≡ l
-unfolding effect after over
+unfolding effect after over recordTable wordsOf
 early-view q l n (early k e) a h = refl
 early-view q l n (halted k d e f) a h = absurd (omega (arith, late (run-stop q (roomsOf l) k d f), same-number k n a))
 early-view q l n (overfull o e f g) a h = let z : _≡_ {A = ℕ} 13 n = cc in absurd (omega arith)
@@ -122,8 +115,8 @@ early-writes-nothing q l n e h = early-view q l n (view q (roomsOf l)) (sym (com
 list-view : (q : Request) (l : Lent) (n : ℕ) {x : Effect} → View q (roomsOf l) x → x .answer ≡ refused n → after x l .lent .records ≡ l .records
 unfolding effect after
 list-view q l n (early k e) a = over-none (l .records)
-list-view q l n (halted k d e f) a = over-no-record (l .records)
-list-view q l n (overfull o e f g) a = over-no-record (l .records)
+list-view q l n (halted k d e f) a = over-none (l .records)
+list-view q l n (overfull o e f g) a = over-none (l .records)
 list-view q l n (done o e f g) a = let z : _≡_ {A = ℕ} 0 1 = cc in absurd (omega arith)
 
 pub refused-keeps-list : RefusedKeepsList

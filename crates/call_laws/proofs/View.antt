@@ -15,7 +15,7 @@ use Rattle.calls.specs.Compile.{Request, Rooms, refused, compiled, compiledOf, 
 
 -- the effect of a request in rooms m, one of four
 pub data View (q : Request) (m : Rooms) : Effect → Type 0 where
-  early : (n : ℕ) → compileRefusal (q .problem) (q .given) ≡ some n → View q m (record { answer = refused n; nodes = []; edges = []; records = [] })
+  early : (n : ℕ) → compileRefusal (q .problem) (q .given) ≡ some n → View q m (record { answer = refused n; nodes = []; edges = []; drained = [] })
   halted : (n : ℕ) (d : Diagram) → compileRefusal (q .problem) (q .given) ≡ none → runOf q m ≡ stoppedAt n d → View q m (effect (refused n) d [])
   overfull : (o : Outcome) → compileRefusal (q .problem) (q .given) ≡ none → runOf q m ≡ finished o → m .records < length (drained (q .given .path) o) → View q m (effect (refused 13) (o .diagram) [])
   done : (o : Outcome) → compileRefusal (q .problem) (q .given) ≡ none → runOf q m ≡ finished o → length (drained (q .given .path) o) ≤ m .records → View q m (effect (compiled (compiledOf (q .given .path) o)) (o .diagram) (drained (q .given .path) o))

@@ -61,12 +61,12 @@ pub data Answer : Type 0 where
   refused : ℕ → Answer
   compiled : Compiled → Answer
 
--- What a call does: its answer, and the words that it writes from each table's start on.
+-- What a call does: its answer, the words that it writes from each table's start on, and the records that it drains from the list's start on.
 pub record Effect : Type 0 where
   pub answer : Answer
   pub nodes : List ℕ
   pub edges : List ℕ
-  pub records : List ℕ
+  pub drained : List Record
 
 unfoldable pub settingsOf : Request → Rooms → Settings
 settingsOf q m =
@@ -102,7 +102,7 @@ compiledOf recordPath o =
 
 -- an answer, a diagram's rows, and records
 unfoldable pub effect : Answer → Diagram → List Record → Effect
-effect a d rs = record { answer = a; nodes = nodeTable (d .nodes); edges = edgeTable (d .edges); records = recordTable rs }
+effect a d rs = record { answer = a; nodes = nodeTable (d .nodes); edges = edgeTable (d .edges); drained = rs }
 
 -- 13 'more records are drained than the record list holds'; 'After 13 the tables hold the finished diagram', the list is unchanged.
 unfoldable pub drainInto : Bool → List ℕ → Outcome → Effect
@@ -116,7 +116,7 @@ effectOf recordPath recordRoom (finished o) = drainInto (leb (length (drained re
 
 -- '1 to 9 … write nothing.'
 unfoldable pub unless : Option ℕ → Effect → Effect
-unless (some n) e = record { answer = refused n; nodes = []; edges = []; records = [] }
+unless (some n) e = record { answer = refused n; nodes = []; edges = []; drained = [] }
 unless none e = e
 
 -- The effect of a compile comes from what it is asked and from how much is lent; what the tables held doesn't enter.
@@ -133,7 +133,7 @@ unfoldable pub after : Effect → Lent → After
 after e l =
     record {
       answer = e .answer;
-      lent = record { nodes = over (e .nodes) (l .nodes); edges = over (e .edges) (l .edges); records = over (e .records) (l .records) };
+      lent = record { nodes = over (e .nodes) (l .nodes); edges = over (e .edges) (l .edges); records = over (recordTable (e .drained)) (l .records) };
     }
 
 unfoldable pub compile : Request → Lent → After

@@ -6,6 +6,7 @@ use Prim.Native.Nat.{ℕ}
 use native.Mathlib.Omega.{arith}
 use lib.IntN.{ℤ}
 use Rattle.layout.specs.Table.{over}
+use Rattle.layout.proofs.Records.{over-none}
 use Rattle.calls.specs.Refusals.{compileRefusal}
 use Rattle.calls.specs.Compile.{Request, Rooms, Effect, compile, compileEffect, after, unless, roomsOf}
 use Rattle.refusals.specs.declared.Verdict.{Verdict}
@@ -13,10 +14,8 @@ use Rattle.refusals.specs.declared.Verdict.the-variants.{Accepted, Refused}
 use Rattle.refusals.specs.Verdict.{refusalOf}
 use Rattle.compile.specs.declared.Request as Asked
 use Rattle.compile.specs.declared.Answer.{Answer}
-use Rattle.compile.specs.declared.Ran.{Ran}
 use Rattle.compile.specs.Asked.{problemOf, givenOf, lentOf}
 use Rattle.compile.specs.Answered.{refusing, ranEffect, Effected, Answers}
-use Rattle.compile.specs.Counted.{stopping, Stood, RunCounted, CompileCounted}
 
 -- an effect over what the tables held is what is after the call
 answers-of : (q : Request) (ns es rs : List ℕ) (a : Answer) (ns′ es′ rs′ : List ℕ) → Effected (compileEffect q (roomsOf (lentOf ns es rs))) ns es rs a ns′ es′ rs′ → Answers (compile q (lentOf ns es rs)) a ns′ es′ rs′
@@ -33,7 +32,7 @@ refused-first q ns es rs n a e z = answers-of q ns es rs a ns es rs (whole q _ n
   where
     go : (x : Option ℕ) (r : Effect) → some n ≡ x → Effected (unless x r) ns es rs a ns es rs
     go none r h = let y : _≡_ {A = ℕ} 0 1 = cc in absurd (omega arith)
-    go (some m) r h = let y : n ≡ m = cc in record { answer-is = z ∙ ap refusing y; nodes-are = refl; edges-are = refl; records-are = refl }
+    go (some m) r h = let y : n ≡ m = cc in record { answer-is = z ∙ ap refusing y; nodes-are = refl; edges-are = refl; records-are = sym (over-none rs) }
 
 pub run-after : (q : Request) (ns es rs : List ℕ) (a : Answer) (ns′ es′ rs′ : List ℕ) → none ≡ compileRefusal (q .problem) (q .given) → Effected (ranEffect q (roomsOf (lentOf ns es rs))) ns es rs a ns′ es′ rs′ → Answers (compile q (lentOf ns es rs)) a ns′ es′ rs′
 unfolding unless
@@ -42,26 +41,6 @@ run-after q ns es rs a ns′ es′ rs′ e w = answers-of q ns es rs a ns′ es�
     go : (x : Option ℕ) (r : Effect) → none ≡ x → Effected r ns es rs a ns′ es′ rs′ → Effected (unless x r) ns es rs a ns′ es′ rs′
     go none r h v = v
     go (some m) r h v = let y : _≡_ {A = ℕ} 0 1 = cc in absurd (omega arith)
-
--- ---- the same where the records are counted alone
-
-pub stopped-first : (q : Request) (m : Rooms) (ns es : List ℕ) (n : ℕ) (ran : Ran) → some n ≡ compileRefusal (q .problem) (q .given) → ran ≡ stopping n → CompileCounted q m ns es ran ns es
-unfolding compileEffect unless over
-stopped-first q m ns es n ran e z = go (compileRefusal (q .problem) (q .given)) refl
-  where
-    go : (x : Option ℕ) → compileRefusal (q .problem) (q .given) ≡ x → CompileCounted q m ns es ran ns es
-    go none h = let y : _≡_ {A = ℕ} 0 1 = cc in absurd (omega arith)
-    go (some i) h =
-        let y : n ≡ i = cc in
-        record {
-          stood = rw h (record { answer-is = ap (λ (x : Ran). x .answer) z ∙ ap refusing y; nodes-are = refl; edges-are = refl });
-          laid = λ k. let v : _≡_ {A = ℕ} 0 1 = cc in absurd (omega arith);
-        }
-
-pub counted-after : (q : Request) (m : Rooms) (ns es : List ℕ) (ran : Ran) (ns′ es′ : List ℕ) → none ≡ compileRefusal (q .problem) (q .given) → RunCounted q m ns es ran ns′ es′ → CompileCounted q m ns es ran ns′ es′
-unfolding compileEffect unless
-counted-after q m ns es ran ns′ es′ e w =
-    record { stood = subst (λ (x : Option ℕ). Stood (unless x (ranEffect q m)) ns es (ran .answer) ns′ es′) e (w .stood); laid = λ k. w .laid }
 
 -- ---- what the check of refusals 1 to 9 told. The value comes to it as bits, whose number z it is.
 

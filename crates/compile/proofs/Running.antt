@@ -15,7 +15,7 @@ use Rattle.diagram.specs.Rule2.{grown}
 use Rattle.diagram.specs.Run.{Mode, Settings, Run, going, stopped, isRelaxing}
 use Rattle.diagram.specs.Tables.{Diagram}
 use Rattle.diagram.specs.After4.{CutsetKind}
-use Rattle.diagram.specs.After6.{Outcome, outcome, finished, finish, run}
+use Rattle.diagram.specs.After6.{finish, run}
 use Rattle.layout.proofs.Records.{over-none}
 use Rattle.calls.specs.Asked as Def
 use Rattle.calls.specs.Refusals.{compileRefusal}
@@ -26,7 +26,6 @@ use Rattle.refusals.proofs.Accepted.{compile-passed}
 use Rattle.branch.specs.declared.Counts.{Counts}
 use Rattle.branch.specs.declared.Step.the-variants.{Going, Stopped}
 use Rattle.branch.specs.State.{countsOf}
-use Rattle.layers.specs.declared.Last.{Last}
 use Rattle.cutset.specs.Whole.{kindOf}
 use Rattle.grow.specs.declared.Growth.{Growth}
 use Rattle.grow.specs.declared.Task.{Task}
@@ -38,11 +37,8 @@ use Rattle.finalize.specs.declared.Given.{Given}
 use Rattle.finalize.specs.Given.{Grown, Finalizable}
 use Rattle.compile.specs.declared.Request.{Request}
 use Rattle.compile.specs.declared.Answer.{Answer}
-use Rattle.compile.specs.declared.Ran.{Ran}
 use Rattle.compile.specs.Asked.{problemOf, givenOf, requestOf, lentOf, taskFrom, rootFrom, givenFrom}
 use Rattle.compile.specs.Answered.{refusing, ranEffect, Effected, Concluded}
-use Rattle.compile.specs.Counted.{roomsFor, stopping, Stood, Laid, ConcludedCounted, RunCounted}
-use Rattle.compile.proofs.Ending.{laid-out, stood-of}
 
 -- ---- what the growth may count on
 
@@ -52,11 +48,11 @@ items-short [] ps = omega arith
 items-short (w ∷ ws) [] = omega arith
 items-short (w ∷ ws) (p ∷ ps) = omega (arith, items-short ws ps)
 
-pub deep : (ws ps : List ℕ) (q : Request) (path : List ℕ) → compileRefusal (problemOf ws ps q) (givenOf q path) ≡ none → q .depth ≤ length (itemsOf ws ps)
+deep : (ws ps : List ℕ) (q : Request) (path : List ℕ) → compileRefusal (problemOf ws ps q) (givenOf q path) ≡ none → q .depth ≤ length (itemsOf ws ps)
 unfolding Def.recordOf
 deep ws ps q path e = accepted (problemOf ws ps q) (givenOf q path) e .valid .deep
 
-pub long : (ws ps : List ℕ) (q : Request) (path : List ℕ) → compileRefusal (problemOf ws ps q) (givenOf q path) ≡ none → length path ≡ q .depth
+long : (ws ps : List ℕ) (q : Request) (path : List ℕ) → compileRefusal (problemOf ws ps q) (givenOf q path) ≡ none → length path ≡ q .depth
 unfolding Def.recordOf
 long ws ps q path e = accepted (problemOf ws ps q) (givenOf q path) e .valid .long
 
@@ -76,7 +72,7 @@ growable ws ps q path ns es e =
 
 -- ---- the definition's run is the growth that the code is told, finished
 
-unfoldable pub recorded : Request → List ℕ → Record
+unfoldable recorded : Request → List ℕ → Record
 recorded q path = Def.recordOf (givenOf q path)
 
 -- a record's bound and path don't enter its growth
@@ -87,10 +83,6 @@ same-growth s items q path = refl
 ran-is : (ws ps : List ℕ) (q : Request) (path ns es rs : List ℕ) → runOf (requestOf ws ps q path) (roomsOf (lentOf ns es rs)) ≡ finish (modeOf (q .mode)) (kindOf (q .kind)) (grown (settingsOf (taskFrom q (length ns) (length es))) (itemsOf ws ps) (recorded q path))
 unfolding runOf run roomsOf Call.settingsOf recorded
 ran-is ws ps q path ns es rs = refl
-
-ran-for : (ws ps : List ℕ) (q : Request) (path ns es : List ℕ) (places : ℕ) → runOf (requestOf ws ps q path) (roomsFor ns es places) ≡ finish (modeOf (q .mode)) (kindOf (q .kind)) (grown (settingsOf (taskFrom q (length ns) (length es))) (itemsOf ws ps) (recorded q path))
-unfolding runOf run Call.settingsOf recorded
-ran-for ws ps q path ns es places = refl
 
 -- ---- a run that stopped
 
@@ -110,24 +102,14 @@ stopped-by (stopped j d) m k path room ns es rs g ns′ es′ n c a w e z =
       records-are = sym (over-none rs);
     }
 
--- it is not finished
-stopped-unfinished : (x : Run) (m : Mode) (k : CutsetKind) (ns es : List ℕ) (g : Growth) (ns′ es′ : List ℕ) (n : ℕ) (c : Counts) (last : Last) → Grew x ns es g ns′ es′ → g .step ≡ Stopped n c → (o : Outcome) → finish m k x ≡ finished o → Laid o last
-unfolding finish
-stopped-unfinished (going d) m k ns es g ns′ es′ n c last w e o h =
-    let s : g .step ≡ Going (countsOf d) = w .stepped .step-is in
-    let y : _≡_ {A = ℕ} 0 1 = cc in
-    absurd (omega arith)
-stopped-unfinished (stopped j d) m k ns es g ns′ es′ n c last w e o h = let y : _≡_ {A = ℕ} 0 1 = cc in absurd (omega arith)
-
 -- ---- a run that grew to its end
 
 -- the diagram that it grew
-pub record Grew-to (s : Settings) (items : List Item) (r : Record) (oldN oldE : List ℕ) (k : Counts) (g : Growth) (given : Given) (ns es rs : List ℕ) : Type 0 where
-  pub diagram : Diagram
-  pub grown-is : grown s items r ≡ going diagram
-  pub stands : Grown s items r diagram oldN oldE k (g .start) (g .layers) (g .last) given ns es rs
+record Grew-to (s : Settings) (items : List Item) (r : Record) (oldN oldE : List ℕ) (k : Counts) (g : Growth) (given : Given) (ns es rs : List ℕ) : Type 0 where
+  diagram : Diagram
+  stands : Grown s items r diagram oldN oldE k (g .start) (g .layers) (g .last) given ns es rs
 
-pub path-back : (path : List ℕ) (depth : ℕ) → length path ≡ depth → take depth (padded path) ≡ path
+path-back : (path : List ℕ) (depth : ℕ) → length path ≡ depth → take depth (padded path) ≡ path
 unfolding padded
 path-back path depth e = rw (← e) (take-append-seam path (replicate (pathRoom - length path) 0))
 
@@ -151,7 +133,6 @@ module _ (ws ps : List ℕ) (q : Request) (path ns es rs : List ℕ) (ok : compi
       let s : g .step ≡ Going (countsOf d) = w .stepped .step-is in
       record {
         diagram = d;
-        grown-is = x;
         stands = record {
           grown-is = x;
           few-items = accepted (problemOf ws ps q) (givenOf q path) ok .few;
@@ -193,37 +174,8 @@ module _ (ws ps : List ℕ) (q : Request) (path ns es rs : List ℕ) (ok : compi
     ran-ended k relaxed a ns″ rs″ e m done =
         let t = grew-to k e in
         subst (λ x. Effected (effectOf path (roomsOf (lentOf ns es rs) .records) x) ns es rs a ns″ es′ rs″)
-        (sym (ran-is ws ps q path ns es rs ∙ ap (finish (modeOf (q .mode)) (kindOf (q .kind))) (t .grown-is)))
+        (sym (ran-is ws ps q path ns es rs ∙ ap (finish (modeOf (q .mode)) (kindOf (q .kind))) (t .stands .grown-is)))
         (done .does settings items (recorded q path) (t .diagram) ns es (t .stands) m)
-
-    -- the same where the records are counted alone, for so many places
-    module _ (places : ℕ) where
-      counted-stopped : (n : ℕ) (c : Counts) (ran : Ran) → g .step ≡ Stopped n c → ran ≡ stopping n → RunCounted (requestOf ws ps q path) (roomsFor ns es places) ns es ran ns′ es′
-      counted-stopped n c ran e z =
-          let x = grown settings items (recorded q path) in
-          let m = modeOf (q .mode) in
-          let k = kindOf (q .kind) in
-          record {
-            stood =
-                subst (λ y. Stood (effectOf path places y) ns es (ran .answer) ns′ es′) (sym (ran-for ws ps q path ns es places))
-                (stood-of (effectOf path places (finish m k x)) ns es [] (ran .answer) ns′ es′ [] (stopped-by x m k path places ns es [] g ns′ es′ n c (ran .answer) as-recorded e (ap (λ (y : Ran). y .answer) z)));
-            laid = λ o h. stopped-unfinished x m k ns es g ns′ es′ n c (ran .last) as-recorded e o (sym (ran-for ws ps q path ns es places) ∙ h);
-          }
-
-      counted-ended : (k : Counts) (relaxed : Bool) (ran : Ran) (ns″ : List ℕ) → g .step ≡ Going k → relaxed ≡ isRelaxing (modeOf (q .mode)) → ConcludedCounted k g relaxed (q .kind) (givenFrom q path 0) places ns′ es′ ran ns″ → Grew-to settings items (recorded q path) ns es k g (givenFrom q path 0) ns′ es′ [] → RunCounted (requestOf ws ps q path) (roomsFor ns es places) ns es ran ns″ es′
-      unfolding effectOf finish recorded Def.recordOf
-      counted-ended k relaxed ran ns″ e m done t =
-          let a = ran-for ws ps q path ns es places ∙ ap (finish (modeOf (q .mode)) (kindOf (q .kind))) (t .grown-is) in
-          record {
-            stood =
-                subst (λ y. Stood (effectOf path places y) ns es (ran .answer) ns″ es′) (sym a)
-                (done .does settings items (recorded q path) (t .diagram) ns es (t .stands) m);
-            laid = λ o h.
-                let b : finished (outcome (modeOf (q .mode)) (kindOf (q .kind)) (t .diagram)) ≡ finished o = sym a ∙ h in
-                let c : outcome (modeOf (q .mode)) (kindOf (q .kind)) (t .diagram) ≡ o = cc in
-                subst (λ (y : Outcome). Laid y (ran .last)) c
-                (laid-out k g (givenFrom q path 0) ns′ es′ [] settings items (recorded q path) (t .diagram) ns es (t .stands) (kindOf (q .kind)) (ran .last) (done .last-is));
-          }
 
 -- ---- the same of what the code calls its functions with
 
@@ -246,15 +198,3 @@ module _ (ws ps : List ℕ) (q : Request) (path ns es rs : List ℕ) (ok : compi
     pub told-ended : (k : Counts) (x : Given) (relaxed : Bool) (y : Answer) (ns″ rs″ : List ℕ) → g .step ≡ Going k → x ≡ givenFrom q path (length rs) → relaxed ≡ isRelaxing (modeOf (q .mode)) → Concluded k g relaxed (q .kind) x ns′ es′ rs y ns″ rs″ → Effected (ranEffect (requestOf ws ps q path) (roomsOf (lentOf ns es rs))) ns es rs y ns″ es′ rs″
     told-ended k x relaxed y ns″ rs″ e d m done =
         ran-ended ws ps q path ns es rs ok g ns′ es′ as-told k relaxed y ns″ rs″ e m (subst (λ (v : Given). Concluded k g relaxed (q .kind) v ns′ es′ rs y ns″ rs″) d done)
-
--- ---- and where the records are counted alone
-
-module _ (ws ps : List ℕ) (q : Request) (path ns es : List ℕ) (ok : compileRefusal (problemOf ws ps q) (givenOf q path) ≡ none) (t : Task) (r : Root) (a : t ≡ taskFrom q (length ns) (length es)) (b : r ≡ rootFrom q) (g : Growth) (ns′ es′ : List ℕ) (w : Grew (grown (settingsOf t) (itemsOf ws ps) (Told.recordOf r)) ns es g ns′ es′) (places : ℕ) where
-  pub told-counted-stopped : (n : ℕ) (c : Counts) (ran : Ran) → g .step ≡ Stopped n c → ran ≡ stopping n → RunCounted (requestOf ws ps q path) (roomsFor ns es places) ns es ran ns′ es′
-  told-counted-stopped n c ran e z = counted-stopped ws ps q path ns es [] ok g ns′ es′ (as-told ws ps q path ns es [] ok t r a b g ns′ es′ w) places n c ran e z
-
-  pub told-counted : (k : Counts) (x : Given) (relaxed : Bool) (ran : Ran) (ns″ : List ℕ) → g .step ≡ Going k → x ≡ givenFrom q path 0 → relaxed ≡ isRelaxing (modeOf (q .mode)) → ConcludedCounted k g relaxed (q .kind) x places ns′ es′ ran ns″ → RunCounted (requestOf ws ps q path) (roomsFor ns es places) ns es ran ns″ es′
-  told-counted k x relaxed ran ns″ e d m done =
-      let u = as-told ws ps q path ns es [] ok t r a b g ns′ es′ w in
-      counted-ended ws ps q path ns es [] ok g ns′ es′ u places k relaxed ran ns″ e m (subst (λ (v : Given). ConcludedCounted k g relaxed (q .kind) v places ns′ es′ ran ns″) d done)
-      (grew-to ws ps q path ns es [] ok g ns′ es′ u k e)

@@ -1,20 +1,17 @@
 -- The values that the small functions of `compile` make are those that the specs name.
 use mathlib.Core.Path.{_≡_, refl, ap, _∙_}
-use mathlib.Core.Bool.{true, false}
+use mathlib.Core.Bool.{false}
 use mathlib.Core.List.{List, [], reverse}
-use Prim.Native.Nat.{ℕ, _/_, _<_, _≤_}
+use Prim.Native.Nat.{ℕ, _/_, _≤_}
 use native.Mathlib.Omega.{arith}
-use lib.Dec.{leb}
 use lib.ListN.{length, take}
 use lib.Seq.{take-all}
-use borrow.Author.Tests.{le-leb, lt-leb}
 use Rattle.words.specs.I64.{word}
 use Rattle.diagram.specs.Record.{padded}
 use Rattle.diagram.specs.Tables.{Range}
 use Rattle.layout.specs.Rows.{edgeWords, nodeWords}
 use Rattle.layout.specs.Records.{recordWords}
 use Rattle.layers.specs.declared.Layers.{Layers}
-use Rattle.layers.specs.declared.Last.the-variants.{Unsquashed}
 use Rattle.layers.specs.Stored.{Sized, stored, layersFrom}
 use Rattle.layers.proofs.Whole.{as-stored}
 use Rattle.grow.specs.declared.Task.{Task}
@@ -28,9 +25,7 @@ use Rattle.finalize.specs.declared.Given.{Given}
 use Rattle.compile.specs.declared.Request.{Request}
 use Rattle.compile.specs.declared.Answer.{Answer}
 use Rattle.compile.specs.Asked.{taskFrom, rootFrom, givenFrom}
-use Rattle.compile.specs.declared.Ran.{Ran}
 use Rattle.compile.specs.Answered.{refusing, finishing}
-use Rattle.compile.specs.Counted.{limited, stopping}
 
 pub root-made : (q : Request) (w : ℕ) → w ≡ word (q .value) → _≡_ {A = Root} (record { capacity = q .capacity; value = w; depth = q .depth }) (rootFrom q)
 root-made q w e = rw e refl
@@ -58,13 +53,3 @@ listed x f nodes edges l n e = rw e refl
 
 pub given-made : (q : Request) (path places : List ℕ) (words : ℕ) → places ≡ padded path → _≡_ {A = Given} (record { path = places; depth = q .depth; room = words / recordWords }) (givenFrom q path words)
 given-made q path places words e = rw e refl
-
--- counted records against the places that there are
-pub over-limit : (x : Drained) (places n : ℕ) → x ≡ Records n → places < n → TooMany ≡ limited places x
-over-limit x places n e h = let t : leb n places ≡ false = lt-leb n places h in rw (e, t) refl
-
-pub in-limit : (x : Drained) (places n : ℕ) → x ≡ Records n → n ≤ places → Records n ≡ limited places x
-in-limit x places n e h = let t : leb n places ≡ true = le-leb n places h in rw (e, t) refl
-
-pub stop-made : (n : ℕ) (a : Answer) → a ≡ refusing n → _≡_ {A = Ran} (record { answer = a; last = Unsquashed }) (stopping n)
-stop-made n a e = rw e refl

@@ -11,6 +11,7 @@ use Rattle.diagram.specs.Tables.{Diagram}
 use Rattle.diagram.specs.Run.{Settings, isRelaxing}
 use Rattle.diagram.specs.After6.{Outcome, outcome, drained}
 use Rattle.layout.specs.Table.{over}
+use Rattle.layout.specs.Records.{recordTable}
 use Rattle.calls.specs.Compile as Def
 use Rattle.calls.specs.Compile.{refused, compiled, Effect, Rooms, After, runOf, drainInto, effectOf}
 use Rattle.branch.specs.declared.Counts.{Counts}
@@ -83,7 +84,7 @@ pub record Effected (e : Effect) (oldN oldE oldR : List ℕ) (a : Answer) (ns es
   pub answer-is : a ≡ answerFrom (e .answer)
   pub nodes-are : ns ≡ over (e .nodes) oldN
   pub edges-are : es ≡ over (e .edges) oldE
-  pub records-are : rs ≡ over (e .records) oldR
+  pub records-are : rs ≡ over (recordTable (e .drained)) oldR
 
 -- the effect of a request that passed refusals 1 to 9, in those rooms
 abbrev pub ranEffect : Def.Request → Rooms → Effect

@@ -1,4 +1,3 @@
 -- What a request of the code asks, what its answer stands for, and what `compile` promises.
 pub mod Asked
 pub mod Answered
-pub mod Counted

@@ -1,6 +1,5 @@
 // The public call `compile`: refusals 1 to 9, then a record's diagram grown and finished in the lent tables, its records drained into the lent list.
 ghost use mathlib.Core.Path.{_≡_};
-ghost use mathlib.Core.List.{[]};
 ghost use mathlib.Core.Option.{none};
 ghost use Prim.Native.Nat.{_≤_};
 ghost use lib.ListN.{length};
@@ -10,7 +9,6 @@ ghost use Rattle.calls.specs.Compile.{compile, roomsOf};
 ghost use Rattle.finalize.specs.Given.{Finalizable};
 ghost use Rattle.compile.specs.Asked.{problemOf, givenOf, requestOf, lentOf, taskFrom, rootFrom, givenFrom};
 ghost use Rattle.compile.specs.Answered.{refusing, finishing, ranEffect, Effected, Concluded, Answers};
-ghost use Rattle.compile.specs.Counted.{roomsFor, limited, stopping, ConcludedCounted, RunCounted, CompileCounted};
 use branch::Counts;
 use branch::Rooms;
 use branch::Step;
@@ -23,7 +21,6 @@ use grow::Growth;
 use grow::Mode;
 use grow::Root;
 use grow::Task;
-use layers::Last;
 use layers::Layers;
 use refusals::Verdict;
 
@@ -52,12 +49,6 @@ pub struct Answer {
     pub edges: usize,
     pub drained: usize,
     pub layers: Layers,
-}
-
-// What `compile_counted` answers: beside the answer the last exact layer, which `fetch` needs.
-pub struct Ran {
-    pub answer: Answer,
-    pub last: Last,
 }
 
 fn refused(number: u64) -> Answer
@@ -143,7 +134,7 @@ fn root_of(q: Request) -> Root
 }
 
 // What the run's end is told of the record, and how many records the list's words make.
-pub fn given_of(q: Request, path: &[u8], record_words: usize) -> Given
+fn given_of(q: Request, path: &[u8], record_words: usize) -> Given
     requires { ⌜ length (now path) ≤ 64 ⌝ }
     ensures { λ g. ⌜ g ≡ givenFrom q (now (path .entry)) «record_words» ⌝ }
 {
@@ -256,115 +247,5 @@ pub fn compile(
     match verdict {
         Verdict::Refused(number) => refused(number),
         Verdict::Accepted => run(weights, profits, nodes, edges, records, q, path),
-    }
-}
-
-// Counted records, or too many where the caller has fewer places for them.
-fn limit(listed: Drained, places: usize) -> Drained
-    ensures { λ r. ⌜ r ≡ limited places listed ⌝ }
-{
-    let Drained::Records(n) = listed else {
-        return Drained::TooMany;
-    };
-    if places < n {
-        return Drained::TooMany;
-    }
-    Drained::Records(n)
-}
-
-fn stop(number: u64) -> Ran
-    ensures { λ r. ⌜ r ≡ stopping number ⌝ }
-{
-    Ran {
-        answer: refused(number),
-        last: Last::Unsquashed,
-    }
-}
-
-// The end of a grown run whose records are counted alone.
-fn conclude_counted(
-    nodes: &mut [u64],
-    edges: &[u64],
-    k: Counts,
-    g: Growth,
-    relaxed: bool,
-    kind: Kind,
-    given: Given,
-    places: usize,
-) -> Ran
-    requires { ⌜ Finalizable k (g .start) (g .layers) (g .last) given (now nodes) (now edges) [] ⌝ }
-    ensures { λ r. ⌜ ConcludedCounted k g relaxed kind given places (now (nodes .entry)) (now (edges .entry)) r (now (nodes .exit)) ⌝ }
-{
-    let start = g.start;
-    let layers = g.layers;
-    let last = g.last;
-    let f = finalize::finalize_counted(nodes, edges, k, start, layers, last, relaxed, kind, given);
-    let counted = f.drained;
-    let listed = limit(counted, places);
-    Ran {
-        answer: answer_of(listed, f, k.nodes, k.edges, layers),
-        last: last,
-    }
-}
-
-// As `run`, but the records are counted alone.
-fn run_counted(
-    weights: &[u64],
-    profits: &[u64],
-    nodes: &mut [u64],
-    edges: &mut [u64],
-    places: usize,
-    q: Request,
-    path: &[u8],
-) -> Ran
-    requires { ⌜ compileRefusal (problemOf (now weights) (now profits) q) (givenOf q (now path)) ≡ none ⌝ }
-    ensures { λ r.
-        ⌜ RunCounted (requestOf (now (weights .entry)) (now (profits .entry)) q (now (path .entry)))
-        (roomsFor (now (nodes .entry)) (now (edges .entry)) places) (now (nodes .entry)) (now (edges .entry)) r (now (nodes .exit))
-        (now (edges .exit)) ⌝ }
-{
-    let t = task_of(q, nodes.len(), edges.len());
-    let g = grow::grow(nodes, edges, weights, profits, t, root_of(q));
-    let step = g.step;
-    match step {
-        Step::Stopped(number, _) => stop(number),
-        Step::Going(k) => {
-            let mode = q.mode;
-            let cut = q.kind;
-            let given = given_of(q, path, 0);
-            conclude_counted(nodes, edges, k, g, grow::relaxes(mode), cut, given, places)
-        }
-    }
-}
-
-// `compile` for a caller with a list of `places` places who fetches the records afterwards: they are counted, 13 is answered where they
-// are more than the places, and none is written.
-pub fn compile_counted(
-    weights: &[u64],
-    profits: &[u64],
-    nodes: &mut [u64],
-    edges: &mut [u64],
-    places: usize,
-    q: Request,
-    path: &[u8],
-) -> Ran
-    ensures { λ r.
-        ⌜ CompileCounted (requestOf (now (weights .entry)) (now (profits .entry)) q (now (path .entry)))
-        (roomsFor (now (nodes .entry)) (now (edges .entry)) places) (now (nodes .entry)) (now (edges .entry)) r (now (nodes .exit))
-        (now (edges .exit)) ⌝ }
-{
-    let verdict = refusals::compile_refusal(
-        weights,
-        profits,
-        q.page,
-        q.width,
-        q.capacity,
-        q.value,
-        q.depth,
-        path,
-    );
-    match verdict {
-        Verdict::Refused(number) => stop(number),
-        Verdict::Accepted => run_counted(weights, profits, nodes, edges, places, q, path),
     }
 }

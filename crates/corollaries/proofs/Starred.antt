@@ -4,6 +4,7 @@ use mathlib.Core.List.{List, [], _∷_, List·Memᴰ, List·Memᴰ·head, List·
 use Prim.Native.Nat.{ℕ}
 use native.Mathlib.Omega.{arith}
 use Rattle.layout.specs.Table.{over}
+use Rattle.layout.specs.Records.{recordTable}
 use Rattle.calls.specs.Compile as Def
 use Rattle.calls.specs.Compile.{Effect, Compiled, refused, compiled, roomsOf, compileEffect, after, compile}
 use Rattle.calls.proofs.Computing.{computing}
@@ -26,7 +27,7 @@ caseEffect : Case → Effect
 caseEffect k = compileEffect (requestOf (k .weights) (k .profits) (k .request) []) (k .rooms)
 
 seenOf : Case → Seen
-seenOf k = let a = answerFrom (caseEffect k .answer) in record { verdict = a .verdict; answer = a; records = caseEffect k .records }
+seenOf k = let a = answerFrom (caseEffect k .answer) in record { verdict = a .verdict; answer = a; records = recordTable (caseEffect k .drained) }
 
 wanted : Case → Seen
 wanted k = record { verdict = Accepted; answer = k .answer; records = k .records }
@@ -45,7 +46,7 @@ record Row (k : Case) : Type 0 where
   compiled-as : Compiled
   is-compiled : caseEffect k .answer ≡ compiled compiled-as
   answer-is : answerFrom (caseEffect k .answer) ≡ k .answer
-  records-are : caseEffect k .records ≡ k .records
+  records-are : recordTable (caseEffect k .drained) ≡ k .records
 
 row : (k : Case) → List·Memᴰ k cases → Row k
 unfolding seenOf wanted
@@ -71,5 +72,5 @@ starred k i c a =
     more-room-effect q (k .rooms) (roomsOf (c .before)) (r .compiled-as) (r .is-compiled) (a .nodes) (a .edges) (a .records) ∙ ap (λ (x : Def.Request). compileEffect x (roomsOf (c .before))) (sym (a .asked-is)) in
     record {
       answer = c .promised .answer-is ∙ ap (λ (x : Effect). answerFrom (x .answer)) (sym same) ∙ r .answer-is;
-      records = c .promised .records-are ∙ ap (λ (x : Effect). over (x .records) (c .before .records)) (sym same) ∙ ap (λ (ws : List ℕ). over ws (c .before .records)) (r .records-are);
+      records = c .promised .records-are ∙ ap (λ (x : Effect). over (recordTable (x .drained)) (c .before .records)) (sym same) ∙ ap (λ (ws : List ℕ). over ws (c .before .records)) (r .records-are);
     }

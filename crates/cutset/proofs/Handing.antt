@@ -2,11 +2,11 @@
 use mathlib.Core.Path.{_≡_, refl, sym, ap, _∙_}
 use mathlib.Core.Bool.{true, false, cond}
 use mathlib.Core.List.{List, [], _∷_, _++_, append-nil}
-use Prim.Native.Nat.{ℕ, zero, suc, _+_, _-_, _*_, _<_, _≤_}
+use Prim.Native.Nat.{ℕ, zero, suc, _+_, _*_, _<_, _≤_}
 use native.Mathlib.Nat.{suc-mul}
 use native.Mathlib.Omega.{arith}
-use lib.ListN.{length, take, drop, length-append, length-drop, length-map}
-use lib.Seq.{take-all, take-append-le, drop-append-le}
+use lib.ListN.{length, take, length-append, length-drop, length-map}
+use lib.Seq.{take-all, take-append-le}
 use Rattle.knapsack.proofs.Cases.{by-test}
 use Rattle.diagram.specs.Record.{Record, pathRoom, padded}
 use Rattle.diagram.specs.Node.{Node, Edge, nodeAt, edgeAt}
@@ -28,7 +28,7 @@ use Rattle.finish.specs.Paths.{PathFits, PathWritten}
 use Rattle.finish.specs.declared.Path.{Path}
 use Rattle.cutset.specs.declared.Wanted.{Wanted}
 use Rattle.cutset.specs.Views.{withCutset, uncut, uncuts}
-use Rattle.cutset.specs.Trace.{recordPath, drainedOf, windowOf, Settled, Handed, Trace, Tracing, Inside, HandedOn}
+use Rattle.cutset.specs.Trace.{recordPath, drainedOf, Settled, Handed, Trace, Tracing, Inside, HandedOn}
 use Rattle.cutset.proofs.Commute.{view-at}
 
 -- ---- rows that look alike without their cutset flags
@@ -74,7 +74,7 @@ up-same (suc f) ns ms es zero s = refl
 up-same (suc f) ns ms es (suc e) s =
     rw (alike-at ns ms (edgeAt es e .from) s .best, up-same f ns ms es (nodeAt ms (edgeAt es e .from) .best) s)
 
-pub path-same : (pre : List ℕ) (d : Diagram) (ns : List Node) (r : ℕ) → uncuts ns ≡ uncuts (d .nodes) → pathTo pre (withNodes d ns) r ≡ pathTo pre d r
+path-same : (pre : List ℕ) (d : Diagram) (ns : List Node) (r : ℕ) → uncuts ns ≡ uncuts (d .nodes) → pathTo pre (withNodes d ns) r ≡ pathTo pre d r
 unfolding pathTo withNodes
 path-same pre d ns r s =
     rw (alike-at ns (d .nodes) r s .best, same-length ns (d .nodes) s, up-same (length (d .nodes)) ns (d .nodes) (d .edges) (nodeAt (d .nodes) r .best) s)
@@ -120,38 +120,6 @@ drain-unmarked : (pre : List ℕ) (d : Diagram) (best : ℕ) (rs : List ℕ) (r 
 unfolding drainRows
 drain-unmarked pre d best rs r m = drain-append pre d best rs r ∙ rw (m, append-nil)
 
--- ---- the records that are wanted
-
-roomy-drop : (n : ℕ) (rs : List Record) → Roomy rs → Roomy (drop n rs)
-roomy-drop zero rs h = h
-roomy-drop (suc n) [] h = tt
-roomy-drop (suc n) (r ∷ rs) h = roomy-drop n rs (h .1)
-
-drop-past : (n : ℕ) (xs : List Record) → length xs ≤ n → drop n xs ≡ []
-drop-past zero [] h = refl
-drop-past zero (x ∷ xs) h = absurd (omega arith)
-drop-past (suc n) [] h = refl
-drop-past (suc n) (x ∷ xs) h = drop-past n xs (omega arith)
-
--- one record more, before those that are wanted, behind them, and one of them
-window-before : (w : Wanted) (xs : List Record) (x : Record) → length xs < w .first → windowOf w (xs ++ (x ∷ [])) ≡ windowOf w xs
-window-before w xs x h =
-    let l : length (xs ++ (x ∷ [])) ≡ suc (length xs) = simp length-append (omega arith) in
-    ap (take (w .room)) (drop-past (w .first) (xs ++ (x ∷ [])) (omega arith) ∙ sym (drop-past (w .first) xs (omega arith)))
-
-window-behind : (w : Wanted) (xs : List Record) (x : Record) → w .first ≤ length xs → w .room ≤ length xs - w .first → windowOf w (xs ++ (x ∷ [])) ≡ windowOf w xs
-window-behind w xs x a b =
-    ap (take (w .room)) (drop-append-le (w .first) xs (x ∷ []) a) ∙ take-append-le (w .room) (drop (w .first) xs) (x ∷ []) (simp length-drop b)
-
--- all from the first on, where these are no more than there is room for
-window-all : (w : Wanted) (xs : List Record) → length xs - w .first ≤ w .room → windowOf w xs ≡ drop (w .first) xs
-window-all w xs h = take-all (w .room) (drop (w .first) xs) (simp length-drop h)
-
-window-more : (w : Wanted) (xs : List Record) (x : Record) → w .first ≤ length xs → length xs - w .first < w .room → windowOf w (xs ++ (x ∷ [])) ≡ drop (w .first) xs ++ (x ∷ [])
-window-more w xs x a b =
-    let l : length (xs ++ (x ∷ [])) ≡ suc (length xs) = simp length-append (omega arith) in
-    window-all w (xs ++ (x ∷ [])) (omega arith) ∙ drop-append-le (w .first) xs (x ∷ []) a
-
 -- ---- the tables of a traversal hold a diagram
 
 over-long : (ws old : List ℕ) → (length ws ≤ length (over ws old)) × (length old ≤ length (over ws old))
@@ -179,7 +147,7 @@ module _ (w : Wanted) (d : Diagram) (oldN oldE oldR : List ℕ) (c : Cutset) (co
   edge-words = rw (t .edges-are) (omega (arith, length-words encodeEdge edgeWords edge-width (d .edges), over-long (edgeTable (d .edges)) oldE .0))
 
   record-words : w .room * recordWords ≤ length rs
-  record-words = rw (t .handed .records-are) (omega (arith, z .record-room, over-long (recordTable (windowOf w (drainedOf w d (c .listed)))) oldR .1))
+  record-words = rw (t .handed .records-are) (omega (arith, z .record-room, over-long (recordTable (take (w .room) (drainedOf w d (c .listed)))) oldR .1))
 
   sits : Sits (countsOf (withNodes d (c .nodes))) ns es
   unfolding withNodes
@@ -221,7 +189,7 @@ module _ (w : Wanted) (d : Diagram) (oldN oldE oldR : List ℕ) (c : Cutset) (co
 
 -- ---- the ways of handing a row on
 
-handed-at : (w : Wanted) (d : Diagram) (oldR listed : List ℕ) (xs : List Record) (count : ℕ) (rs : List ℕ) → drainedOf w d listed ≡ xs → count ≡ length xs → rs ≡ over (recordTable (windowOf w xs)) oldR → Roomy xs → Handed w d oldR listed count rs
+handed-at : (w : Wanted) (d : Diagram) (oldR listed : List ℕ) (xs : List Record) (count : ℕ) (rs : List ℕ) → drainedOf w d listed ≡ xs → count ≡ length xs → rs ≡ over (recordTable (take (w .room) xs)) oldR → Roomy xs → Handed w d oldR listed count rs
 handed-at w d oldR listed xs count rs e k r y = record { count-is = rw e k; records-are = rw e r; roomy = rw e y }
 
 record-fits : (w : Wanted) (d : Diagram) (oldR : List ℕ) (r : ℕ) → Settled w d oldR → r < length (d .nodes) → length (drainedRecord (recordPath w) d (w .best) r .path) ≤ pathRoom
@@ -238,9 +206,9 @@ unmarked-on w r count ns es rs n read m =
       grows = omega arith;
     }
 
--- its record is not wanted
-counted-on : (w : Wanted) (r count : ℕ) (ns es rs : List ℕ) (n : Node) → NodeRead ns r n → n .marked ≡ true → ((xs : List Record) (x : Record) → count ≡ length xs → windowOf w (xs ++ (x ∷ [])) ≡ windowOf w xs) → HandedOn w r count ns es rs (count + 1) rs
-counted-on w r count ns es rs n read m out =
+-- the list has no room for its record
+pub behind-on : (w : Wanted) (r count : ℕ) (ns es rs : List ℕ) (n : Node) → NodeRead ns r n → n .marked ≡ true → w .room ≤ count → HandedOn w r count ns es rs (count + 1) rs
+behind-on w r count ns es rs n read m full =
     record {
       does = λ d oldN oldE oldR c z t h.
           let a = row-alike w d oldN oldE oldR c count ns es rs z t r n h read in
@@ -250,38 +218,28 @@ counted-on w r count ns es rs n read m out =
           let k = t .handed .count-is in
           let l : length (xs ++ (x ∷ [])) ≡ suc (length xs) = simp length-append (omega arith) in
           handed-at w d oldR (c .listed ++ (r ∷ [])) (xs ++ (x ∷ [])) (count + 1) rs e (omega arith)
-          (t .handed .records-are ∙ ap (λ (y : List Record). over (recordTable y) oldR) (sym (out xs x k)))
+          (t .handed .records-are ∙ ap (λ (y : List Record). over (recordTable y) oldR) (sym (take-append-le (w .room) xs (x ∷ []) (omega arith))))
           (roomy-snoc xs x (t .handed .roomy) (record-fits w d oldR r z h));
       grows = omega arith;
     }
 
-pub before-on : (w : Wanted) (r count : ℕ) (ns es rs : List ℕ) (n : Node) → NodeRead ns r n → n .marked ≡ true → count < w .first → HandedOn w r count ns es rs (count + 1) rs
-before-on w r count ns es rs n read m h =
-    counted-on w r count ns es rs n read m (λ xs x k. window-before w xs x (omega arith))
-
-pub behind-on : (w : Wanted) (r count : ℕ) (ns es rs : List ℕ) (n : Node) → NodeRead ns r n → n .marked ≡ true → w .first ≤ count → w .room ≤ count - w .first → HandedOn w r count ns es rs (count + 1) rs
-behind-on w r count ns es rs n read m a b =
-    counted-on w r count ns es rs n read m (λ xs x k. window-behind w xs x (omega arith) (omega arith))
-
-pub written-on : (w : Wanted) (r count : ℕ) (ns es rs : List ℕ) (n : Node) (p : Path) (bound : ℕ) (rs′ : List ℕ) → NodeRead ns r n → n .marked ≡ true → w .first ≤ count → count - w .first < w .room → PathWritten ns es r (recordPath w) p → bound ≡ drainedBound (w .best) n → RecordWritten rs (count - w .first) (n .capacity) (n .value) bound (n .depth) (p .bytes) rs′ → HandedOn w r count ns es rs (count + 1) rs′
+pub written-on : (w : Wanted) (r count : ℕ) (ns es rs : List ℕ) (n : Node) (p : Path) (bound : ℕ) (rs′ : List ℕ) → NodeRead ns r n → n .marked ≡ true → count < w .room → PathWritten ns es r (recordPath w) p → bound ≡ drainedBound (w .best) n → RecordWritten rs count (n .capacity) (n .value) bound (n .depth) (p .bytes) rs′ → HandedOn w r count ns es rs (count + 1) rs′
 unfolding drainedRecord
-written-on w r count ns es rs n p bound rs′ read m from free path b g =
+written-on w r count ns es rs n p bound rs′ read m free path b g =
     record {
       does = λ d oldN oldE oldR c z t h.
           let a = row-alike w d oldN oldE oldR c count ns es rs z t r n h read in
           let pre = recordPath w in
           let x = drainedRecord pre d (w .best) r in
           let xs = drainedOf w d (c .listed) in
-          let ys = drop (w .first) xs in
           let e = drain-marked pre d (w .best) (c .listed) r (sym (a .marked) ∙ m) in
           let k = t .handed .count-is in
           let l : length (xs ++ (x ∷ [])) ≡ suc (length xs) = simp length-append (omega arith) in
-          let place : count - w .first ≡ length ys = simp length-drop (omega arith) in
-          let q : rs′ ≡ over (recordTable (ys ++ (recordFrom (w .best) n (pathTo pre d r) ∷ []))) oldR =
-          (rw b at g) .appended ys oldR (pathTo pre d r) (t .handed .records-are ∙ ap (λ (y : List Record). over (recordTable y) oldR) (window-all w xs (omega arith))) (roomy-drop (w .first) xs (t .handed .roomy)) place (omega (arith, z .record-room, suc-mul (count - w .first) recordWords)) (z .paths r h) (path-is w d oldN oldE oldR c count ns es rs z t r p h path) in
+          let q : rs′ ≡ over (recordTable (xs ++ (recordFrom (w .best) n (pathTo pre d r) ∷ []))) oldR =
+          (rw b at g) .appended xs oldR (pathTo pre d r) (t .handed .records-are ∙ ap (λ (y : List Record). over (recordTable y) oldR) (take-all (w .room) xs (omega arith))) (t .handed .roomy) k (omega (arith, z .record-room, suc-mul count recordWords)) (z .paths r h) (path-is w d oldN oldE oldR c count ns es rs z t r p h path) in
           let same : recordFrom (w .best) n (pathTo pre d r) ≡ x = from-same (w .best) n (nodeAt (d .nodes) r) _ _ a refl in
           handed-at w d oldR (c .listed ++ (r ∷ [])) (xs ++ (x ∷ [])) (count + 1) rs′ e (omega arith)
-          (q ∙ rw (same, window-more w xs x (omega arith) (omega arith)))
+          (q ∙ rw (same, take-all (w .room) (xs ++ (x ∷ [])) (omega arith)))
           (roomy-snoc xs x (t .handed .roomy) (record-fits w d oldR r z h));
       grows = omega arith;
     }
@@ -292,7 +250,7 @@ pub path-asked : (w : Wanted) (r count : ℕ) (ns es rs : List ℕ) → Tracing 
 path-asked w r count ns es rs g =
     (path-fits w (g .diagram) (g .oldN) (g .oldE) (g .oldR) (g .cut) count ns es rs (g .settled) (g .trace) r (g .asked), g .settled .depth-in)
 
-pub place-asked : (P : Diagram → Cutset → Type 0) (w : Wanted) (count : ℕ) (ns es rs : List ℕ) (place : ℕ) → Tracing P w count ns es rs → place < w .room → place * recordWords + recordWords ≤ length rs
-place-asked P w count ns es rs place g h =
+pub place-asked : (P : Diagram → Cutset → Type 0) (w : Wanted) (count : ℕ) (ns es rs : List ℕ) → Tracing P w count ns es rs → count < w .room → count * recordWords + recordWords ≤ length rs
+place-asked P w count ns es rs g h =
     let n = record-words w (g .diagram) (g .oldN) (g .oldE) (g .oldR) (g .cut) count ns es rs (g .settled) (g .trace) in
     omega arith

@@ -1,12 +1,12 @@
 -- A whole cutset listed, and listed again to be drained.
 use mathlib.Core.Path.{_≡_, refl, sym, ap, subst, _∙_}
 use mathlib.Core.Bool.{true, false}
-use mathlib.Core.List.{List, []}
+use mathlib.Core.List.{List}
 use Prim.Native.Nat.{ℕ, _-_, _*_, _<_, _≤_}
 use native.Mathlib.Omega.{arith}
 use lib.Dec.{leb}
-use lib.ListN.{length, take, drop}
-use lib.Seq.{take-nil, take-all, drop-nil}
+use lib.ListN.{length}
+use lib.Seq.{take-nil, take-all}
 use borrow.Author.Tests.{le-leb, lt-leb}
 use Rattle.diagram.specs.Record.{Record}
 use Rattle.diagram.specs.Node.{Node}
@@ -26,8 +26,8 @@ use Rattle.layers.specs.declared.Last.{Last}
 use Rattle.layers.specs.declared.Last.the-variants.{Unsquashed, After}
 use Rattle.cutset.specs.declared.Drained.the-variants.{Records, TooMany}
 use Rattle.cutset.specs.Clearing.{Cleared}
-use Rattle.cutset.specs.Trace.{recordPath, drainedOf, windowOf, Settled, Trace, Tracing, Traced, Upto, FewRanges, listings, ofLayers}
-use Rattle.cutset.specs.Whole.{kindOf, LastIn, counting, Shaped, cutsetFrom, Bounded, Drainable, DrainedOff, Flagged, Windowed, WindowDrained}
+use Rattle.cutset.specs.Trace.{drainedOf, Settled, Trace, Tracing, Traced, Upto, FewRanges, listings, ofLayers}
+use Rattle.cutset.specs.Whole.{kindOf, LastIn, counting, Shaped, cutsetFrom, Bounded, Drainable, DrainedOff}
 use Rattle.cutset.proofs.Commute.{of-flags}
 use Rattle.cutset.proofs.Handing.{same-length}
 use Rattle.cutset.proofs.Listing.{tracing-as}
@@ -81,9 +81,6 @@ unfolding cutsetFrom cutsetOf
 from-none lastExactLayer d = refl
 from-none frontier d = refl
 
-none-wanted : (w : Wanted) → windowOf w [] ≡ []
-none-wanted w = ap (take (w .room)) (drop-nil {A = Record} (w .first)) ∙ take-nil {A = Record} (w .room)
-
 fresh-trace : (w : Wanted) (d : Diagram) (oldN oldE oldR ns es rs : List ℕ) → ns ≡ over (nodeTable (d .nodes)) oldN → es ≡ over (edgeTable (d .edges)) oldE → rs ≡ oldR → Trace w d oldN oldE oldR (noCutset d) 0 ns es rs
 unfolding noCutset drainRows
 fresh-trace w d oldN oldE oldR ns es rs a b e =
@@ -91,16 +88,16 @@ fresh-trace w d oldN oldE oldR ns es rs a b e =
       nodes-are = a;
       edges-are = b;
       same = refl;
-      handed = record { count-is = refl; records-are = e ∙ sym (over-none oldR) ∙ ap (λ (x : List Record). over (recordTable x) oldR) (sym (none-wanted w)); roomy = tt };
+      handed = record { count-is = refl; records-are = e ∙ sym (over-none oldR) ∙ ap (λ (x : List Record). over (recordTable x) oldR) (sym (take-nil {A = Record} (w .room))); roomy = tt };
     }
 
--- another question about the same diagram: the record's path stays, and the list has the places that are wanted now
-pub settled-as : (w v : Wanted) (d : Diagram) (rs rs′ : List ℕ) → recordPath v ≡ recordPath w → v .depth ≤ 64 → v .room * recordWords ≤ length rs′ → Settled w d rs → Settled v d rs′
-settled-as w v d rs rs′ e h room z =
-    record { wired = z .wired; start-in = z .start-in; bytes = z .bytes; paths = rw e (z .paths); depth-in = h; record-room = room }
+-- another question about the same diagram and record: the list has the places that are wanted now
+pub settled-as : (w : Wanted) (room best : ℕ) (d : Diagram) (rs : List ℕ) → room * recordWords ≤ length rs → Settled w d rs → Settled (record { room = room; best = best; path = w .path; depth = w .depth }) d rs
+settled-as w room best d rs h z =
+    record { wired = z .wired; start-in = z .start-in; bytes = z .bytes; paths = z .paths; depth-in = z .depth-in; record-room = h }
 
 counting-settled : (w : Wanted) (d : Diagram) (rs : List ℕ) → Settled w d rs → Settled (counting w) d rs
-counting-settled w d rs z = settled-as w (counting w) d rs rs refl (z .depth-in) (omega arith) z
+counting-settled w d rs z = settled-as w 0 (w .best) d rs (omega arith) z
 
 pub count-first : (w : Wanted) (l : Layers) (s : Last) (count : ℕ) (ns es rs : List ℕ) → Drainable w l s count ns es rs → Tracing (Shaped l s) (counting w) 0 ns es rs × (Sized l × (l .count ≤ 65))
 count-first w l s count ns es rs x =
@@ -118,61 +115,7 @@ count-first w l s count ns es rs x =
       (x .sized, x .layers-in),
     )
 
--- ---- a cutset that is flagged, listed again
-
-module _ (w : Wanted) (l : Layers) (s : Last) (k : Kind) (count : ℕ) (ns es rs : List ℕ) where
-  module _ (d : Diagram) (oldN oldE : List ℕ) (b : Flagged w l s k d oldN oldE count ns es rs) where
-    rows-are : count ≡ length (cutsetOf (kindOf k) d .nodes)
-    rows-are = b .count-is ∙ sym (same-length (cutsetOf (kindOf k) d .nodes) (d .nodes) (of-flags (kindOf k) d))
-
-    flags-words : count * nodeWords ≤ length ns
-    flags-words = omega (arith, rows-are, nodes-within (cutsetOf (kindOf k) d .nodes) oldN ns (b .nodes-are))
-
-    -- the flags cleared, the tables hold the diagram without them
-    unflagged : (ns₁ : List ℕ) → Cleared ns count ns₁ → ns₁ ≡ over (nodeTable (d .nodes)) oldN
-    unflagged ns₁ cl =
-        cl .does (cutsetOf (kindOf k) d .nodes) oldN (b .nodes-are) rows-are
-        ∙ ap (λ (m : List Node). over (nodeTable m) oldN) (of-flags (kindOf k) d ∙ b .clear)
-
-    -- listed again, they hold the whole cutset
-    again : (ns₁ : List ℕ) (n : ℕ) (ns₂ rs₂ : List ℕ) → Cleared ns count ns₁ → Traced (Shaped l s) (cutsetFrom (kindOf k)) w 0 ns₁ es rs n ns₂ rs₂ → Trace w d oldN oldE rs (cutsetOf (kindOf k) d) n ns₂ es rs₂
-    again ns₁ n ns₂ rs₂ cl g =
-        subst (λ (c : Cutset). Trace w d oldN oldE rs c n ns₂ es rs₂) (from-none (kindOf k) d)
-        (g .does d oldN oldE rs (noCutset d) (b .settled) (fresh-trace w d oldN oldE rs ns₁ es rs (unflagged ns₁ cl) (b .edges-are) refl) (b .shaped))
-
-  pub clear-asked : Windowed w l s k count ns es rs → count * nodeWords ≤ length ns
-  clear-asked x = flags-words (x .diagram) (x .oldN) (x .oldE) (x .flagged)
-
-  pub list-again : (ns₁ : List ℕ) → Cleared ns count ns₁ → Windowed w l s k count ns es rs → Tracing (Shaped l s) w 0 ns₁ es rs × (Sized l × (l .count ≤ 65))
-  list-again ns₁ cl x =
-      let b = x .flagged in (
-        record {
-          diagram = x .diagram;
-          oldN = x .oldN;
-          oldE = x .oldE;
-          oldR = rs;
-          cut = noCutset (x .diagram);
-          settled = b .settled;
-          trace = fresh-trace w (x .diagram) (x .oldN) (x .oldE) rs ns₁ es rs (unflagged (x .diagram) (x .oldN) (x .oldE) b ns₁ cl) (b .edges-are) refl;
-          asked = b .shaped;
-        },
-        (x .sized, x .layers-in),
-      )
-
-  pub window-drained : (ns₁ : List ℕ) (n : ℕ) (ns₂ rs₂ : List ℕ) → Windowed w l s k count ns es rs → Cleared ns count ns₁ → Traced (Shaped l s) (cutsetFrom (kindOf k)) w 0 ns₁ es rs n ns₂ rs₂ → WindowDrained w l s k count ns es rs n ns₂ rs₂
-  window-drained ns₁ n ns₂ rs₂ x cl g =
-      record {
-        nodes-kept = again (x .diagram) (x .oldN) (x .oldE) (x .flagged) ns₁ n ns₂ rs₂ cl g .nodes-are ∙ sym (x .flagged .nodes-are);
-        does = λ d oldN oldE b.
-            let z = again d oldN oldE b ns₁ n ns₂ rs₂ cl g in
-            record { count-is = z .handed .count-is; records-are = z .handed .records-are };
-      }
-
--- ---- drained after it was counted
-
--- where all are wanted and have room, all are written
-all-wanted : (w : Wanted) (xs : List Record) → w .first ≡ 0 → length xs ≤ w .room → windowOf w xs ≡ xs
-all-wanted w xs e h = ap (λ (i : ℕ). take (w .room) (drop i xs)) e ∙ take-all (w .room) xs h
+-- ---- counted, and listed again to be drained
 
 module _ (w : Wanted) (l : Layers) (s : Last) (k : Kind) (count : ℕ) (ns es rs : List ℕ) (n : ℕ) (ns₁ rs₁ : List ℕ) (g : Traced (Shaped l s) (cutsetFrom (kindOf k)) (counting w) 0 ns es rs n ns₁ rs₁) where
   module _ (d : Diagram) (oldN oldE : List ℕ) (b : Bounded w l s d oldN oldE count ns es rs) where
@@ -181,22 +124,30 @@ module _ (w : Wanted) (l : Layers) (s : Last) (k : Kind) (count : ℕ) (ns es rs
         subst (λ (c : Cutset). Trace (counting w) d oldN oldE rs c n ns₁ es rs₁) (from-none (kindOf k) d)
         (g .does d oldN oldE rs (noCutset d) (counting-settled w d rs (b .settled)) (fresh-trace (counting w) d oldN oldE rs ns es rs (b .nodes-are) (b .edges-are) refl) (b .shaped))
 
-    pub found-is : n ≡ length (drainedOf w d (cutsetOf (kindOf k) d .listed))
+    found-is : n ≡ length (drainedOf w d (cutsetOf (kindOf k) d .listed))
     found-is = counted .handed .count-is
 
     pub list-kept : rs₁ ≡ rs
     list-kept = counted .handed .records-are ∙ over-none rs
 
-    now-flagged : Flagged w l s k d oldN oldE count ns₁ es rs₁
-    now-flagged =
-        record {
-          nodes-are = counted .nodes-are;
-          edges-are = b .edges-are;
-          count-is = b .count-is;
-          clear = b .clear;
-          settled = subst (λ (x : List ℕ). Settled w d x) (sym list-kept) (b .settled);
-          shaped = b .shaped;
-        }
+    rows-are : count ≡ length (cutsetOf (kindOf k) d .nodes)
+    rows-are = b .count-is ∙ sym (same-length (cutsetOf (kindOf k) d .nodes) (d .nodes) (of-flags (kindOf k) d))
+
+    flags-words : count * nodeWords ≤ length ns₁
+    flags-words = omega (arith, rows-are, nodes-within (cutsetOf (kindOf k) d .nodes) oldN ns₁ (counted .nodes-are))
+
+    -- the flags cleared, the tables hold the diagram without them
+    unflagged : (ns₂ : List ℕ) → Cleared ns₁ count ns₂ → Trace w d oldN oldE rs (noCutset d) 0 ns₂ es rs₁
+    unflagged ns₂ cl =
+        fresh-trace w d oldN oldE rs ns₂ es rs₁
+        (cl .does (cutsetOf (kindOf k) d .nodes) oldN (counted .nodes-are) rows-are ∙ ap (λ (m : List Node). over (nodeTable m) oldN) (of-flags (kindOf k) d ∙ b .clear))
+        (b .edges-are) list-kept
+
+    -- listed again, they hold the whole cutset
+    again : (ns₂ : List ℕ) (m : ℕ) (ns₃ rs₃ : List ℕ) → Cleared ns₁ count ns₂ → Traced (Shaped l s) (cutsetFrom (kindOf k)) w 0 ns₂ es rs₁ m ns₃ rs₃ → Trace w d oldN oldE rs (cutsetOf (kindOf k) d) m ns₃ es rs₃
+    again ns₂ m ns₃ rs₃ cl h =
+        subst (λ (c : Cutset). Trace w d oldN oldE rs c m ns₃ es rs₃) (from-none (kindOf k) d)
+        (h .does d oldN oldE rs (noCutset d) (b .settled) (unflagged ns₂ cl) (b .shaped))
 
   pub too-many : w .room < n → DrainedOff w l s k count ns es rs TooMany ns₁ rs₁
   too-many h =
@@ -211,21 +162,36 @@ module _ (w : Wanted) (l : Layers) (s : Last) (k : Kind) (count : ℕ) (ns es rs
             };
       }
 
-  pub window-asked : Drainable w l s count ns es rs → Windowed w l s k count ns₁ es rs₁
-  window-asked x =
-      record { diagram = x .diagram; oldN = x .oldN; oldE = x .oldE; flagged = now-flagged (x .diagram) (x .oldN) (x .oldE) (x .bounded); sized = x .sized; layers-in = x .layers-in }
+  pub clear-asked : Drainable w l s count ns es rs → count * nodeWords ≤ length ns₁
+  clear-asked x = flags-words (x .diagram) (x .oldN) (x .oldE) (x .bounded)
 
-  pub all-drained : (m : ℕ) (ns₂ rs₂ : List ℕ) → w .first ≡ 0 → n ≤ w .room → WindowDrained w l s k count ns₁ es rs₁ m ns₂ rs₂ → DrainedOff w l s k count ns es rs (Records m) ns₂ rs₂
-  all-drained m ns₂ rs₂ e h y =
+  pub list-again : (ns₂ : List ℕ) → Cleared ns₁ count ns₂ → Drainable w l s count ns es rs → Tracing (Shaped l s) w 0 ns₂ es rs₁ × (Sized l × (l .count ≤ 65))
+  list-again ns₂ cl x =
+      let b = x .bounded in (
+        record {
+          diagram = x .diagram;
+          oldN = x .oldN;
+          oldE = x .oldE;
+          oldR = rs;
+          cut = noCutset (x .diagram);
+          settled = b .settled;
+          trace = unflagged (x .diagram) (x .oldN) (x .oldE) b ns₂ cl;
+          asked = b .shaped;
+        },
+        (x .sized, x .layers-in),
+      )
+
+  pub all-drained : (ns₂ : List ℕ) (m : ℕ) (ns₃ rs₃ : List ℕ) → n ≤ w .room → Cleared ns₁ count ns₂ → Traced (Shaped l s) (cutsetFrom (kindOf k)) w 0 ns₂ es rs₁ m ns₃ rs₃ → DrainedOff w l s k count ns es rs (Records m) ns₃ rs₃
+  all-drained ns₂ m ns₃ rs₃ h cl y =
       record {
         does = λ d oldN oldE b.
             let xs = drainedOf w d (cutsetOf (kindOf k) d .listed) in
-            let z = y .does d oldN oldE (now-flagged d oldN oldE b) in
+            let z = again d oldN oldE b ns₂ m ns₃ rs₃ cl y in
             let f : length xs ≤ w .room = omega (arith, found-is d oldN oldE b) in
             let t : leb (length xs) (w .room) ≡ true = le-leb (length xs) (w .room) f in
             record {
-              answer-is = rw t (ap Records (z .count-is));
-              nodes-are = y .nodes-kept ∙ counted d oldN oldE b .nodes-are;
-              records-are = rw t (z .records-are ∙ ap (over (recordTable (windowOf w xs))) (list-kept d oldN oldE b) ∙ ap (λ (x : List Record). over (recordTable x) rs) (all-wanted w xs e f));
+              answer-is = rw t (ap Records (z .handed .count-is));
+              nodes-are = z .nodes-are;
+              records-are = rw t (z .handed .records-are ∙ ap (λ (x : List Record). over (recordTable x) rs) (take-all (w .room) xs f));
             };
       }

@@ -3,7 +3,7 @@ use mathlib.Core.Path.{_≡_}
 use mathlib.Core.Bool.{cond}
 use mathlib.Core.List.{List, [], _∷_, _++_}
 use Prim.Native.Nat.{ℕ, _+_, _*_, _<_, _≤_}
-use lib.ListN.{length, take, drop}
+use lib.ListN.{length, take}
 use Rattle.diagram.specs.Record.{Record, pathRoom}
 use Rattle.diagram.specs.Node.{nodeAt, edgeAt}
 use Rattle.diagram.specs.Tables.{Range, Diagram, rowsFrom, inbound}
@@ -27,10 +27,6 @@ recordPath w = take (w .depth) (w .path)
 abbrev pub drainedOf : Wanted → Diagram → List ℕ → List Record
 drainedOf w d listed = drainRows (recordPath w) d (w .best) listed
 
--- those of them that are wanted
-abbrev pub windowOf : Wanted → List Record → List Record
-windowOf w xs = take (w .room) (drop (w .first) xs)
-
 -- What holds of a diagram all through a traversal: its links, one byte a decision, paths that have room; and the list has its places.
 pub record Settled (w : Wanted) (d : Diagram) (oldR : List ℕ) : Type 0 where
   pub wired : Wired d
@@ -40,10 +36,10 @@ pub record Settled (w : Wanted) (d : Diagram) (oldR : List ℕ) : Type 0 where
   pub depth-in : w .depth ≤ 64
   pub record-room : w .room * recordWords ≤ length oldR
 
--- Of the rows listed so far the marked ones are counted, and those of their records that are wanted are in the list.
+-- Of the rows listed so far the marked ones are counted, and those of their records that the list has room for are in it.
 pub record Handed (w : Wanted) (d : Diagram) (oldR listed : List ℕ) (count : ℕ) (rs : List ℕ) : Type 0 where
   pub count-is : count ≡ length (drainedOf w d listed)
-  pub records-are : rs ≡ over (recordTable (windowOf w (drainedOf w d listed))) oldR
+  pub records-are : rs ≡ over (recordTable (take (w .room) (drainedOf w d listed))) oldR
   pub roomy : Roomy (drainedOf w d listed)
 
 -- The tables hold diagram d with the flags of cutset c, over what was there.

@@ -22,11 +22,11 @@ use Rattle.cutset.specs.declared.Kind.the-variants.{LastExactLayer, Fron
 use Rattle.cutset.specs.declared.Drained.{Drained}
 use Rattle.cutset.specs.declared.Drained.the-variants.{Records, TooMany}
 use Rattle.cutset.specs.Views.{uncuts}
-use Rattle.cutset.specs.Trace.{drainedOf, windowOf, Settled, Ranged}
+use Rattle.cutset.specs.Trace.{drainedOf, Settled, Ranged}
 
 -- the same question without room: rows are flagged and counted, and no record is written
 abbrev pub counting : Wanted → Wanted
-counting w = record { first = 0; room = 0; best = w .best; path = w .path; depth = w .depth }
+counting w = record { room = 0; best = w .best; path = w .path; depth = w .depth }
 
 abbrev pub kindOf : Kind → CutsetKind
 kindOf LastExactLayer = lastExactLayer
@@ -59,13 +59,12 @@ pub record Bounded (w : Wanted) (l : Layers) (s : Last) (d : Diagram) (oldN oldE
   pub settled : Settled w d rs
   pub shaped : Shaped l s d (noCutset d)
 
--- They hold some such diagram, and all its records are wanted.
+-- They hold some such diagram.
 pub record Drainable (w : Wanted) (l : Layers) (s : Last) (count : ℕ) (ns es rs : List ℕ) : Type 0 where
   pub diagram : Diagram
   pub oldN : List ℕ
   pub oldE : List ℕ
   pub bounded : Bounded w l s diagram oldN oldE count ns es rs
-  pub from-start : w .first ≡ 0
   pub sized : Sized l
   pub layers-in : l .count ≤ 65
 
@@ -84,33 +83,3 @@ pub record Drains (room : ℕ) (c : Cutset) (xs : List Record) (oldN rs : List �
 
 pub record DrainedOff (w : Wanted) (l : Layers) (s : Last) (k : Kind) (count : ℕ) (ns es rs : List ℕ) (r : Drained) (ns′ rs′ : List ℕ) : Type 0 where
   pub does : (d : Diagram) (oldN oldE : List ℕ) → Bounded w l s d oldN oldE count ns es rs → Drains (w .room) (cutsetOf (kindOf k) d) (drainedOf w d (cutsetOf (kindOf k) d .listed)) oldN rs r ns′ rs′
-
--- ---- the records of a cutset that is flagged, part by part
-
--- The tables hold diagram d, which has its marks and bottom values, with the flags of its cutset.
-pub record Flagged (w : Wanted) (l : Layers) (s : Last) (k : Kind) (d : Diagram) (oldN oldE : List ℕ) (count : ℕ) (ns es rs : List ℕ) : Type 0 where
-  pub nodes-are : ns ≡ over (nodeTable (cutsetOf (kindOf k) d .nodes)) oldN
-  pub edges-are : es ≡ over (edgeTable (d .edges)) oldE
-  pub count-is : count ≡ length (d .nodes)
-  pub clear : uncuts (d .nodes) ≡ d .nodes
-  pub settled : Settled w d rs
-  pub shaped : Shaped l s d (noCutset d)
-
--- They hold some such diagram.
-pub record Windowed (w : Wanted) (l : Layers) (s : Last) (k : Kind) (count : ℕ) (ns es rs : List ℕ) : Type 0 where
-  pub diagram : Diagram
-  pub oldN : List ℕ
-  pub oldE : List ℕ
-  pub flagged : Flagged w l s k diagram oldN oldE count ns es rs
-  pub sized : Sized l
-  pub layers-in : l .count ≤ 65
-
--- of the records xs of the marked rows, n in all, those that are wanted are in the list
-pub record Fetched (w : Wanted) (xs : List Record) (rs : List ℕ) (n : ℕ) (rs′ : List ℕ) : Type 0 where
-  pub count-is : n ≡ length xs
-  pub records-are : rs′ ≡ over (recordTable (windowOf w xs)) rs
-
--- the node table is as it was, and the records that are wanted are in the list
-pub record WindowDrained (w : Wanted) (l : Layers) (s : Last) (k : Kind) (count : ℕ) (ns es rs : List ℕ) (n : ℕ) (ns′ rs′ : List ℕ) : Type 0 where
-  pub nodes-kept : ns′ ≡ ns
-  pub does : (d : Diagram) (oldN oldE : List ℕ) → Flagged w l s k d oldN oldE count ns es rs → Fetched w (drainedOf w d (cutsetOf (kindOf k) d .listed)) rs n rs′

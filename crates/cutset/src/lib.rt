@@ -11,7 +11,7 @@ ghost use Rattle.cutset.specs.Views.{withCutset};
 ghost use Rattle.cutset.specs.Trace.{Inside, Upto, FewInside, FewLink, FewUpto, Tracing, Traced, HandedOn};
 ghost use Rattle.cutset.specs.Trace.{FewRanges, listing, listings, adding, alongEdges, ofRow, ofRows, ofLayers};
 ghost use Rattle.cutset.specs.Clearing.{Cleared};
-ghost use Rattle.cutset.specs.Whole.{kindOf, counting, Shaped, cutsetFrom, Drainable, DrainedOff, Windowed, WindowDrained};
+ghost use Rattle.cutset.specs.Whole.{kindOf, counting, Shaped, cutsetFrom, Drainable, DrainedOff};
 ghost use Rattle.layers.specs.Stored.{Sized, stored};
 use layers::Last;
 use layers::Layers;
@@ -20,10 +20,9 @@ use rows::Link;
 use rows::Node;
 use rows::NodeId;
 
-// What a traversal is asked: the first record that is written, how many the list has room for, the run's best value, and the path,
-// with its length, of the record that was compiled. A traversal without room flags and counts.
+// What a traversal is asked: how many records the list has room for, the run's best value, and the path, with its length, of the
+// record that was compiled. A traversal without room flags and counts.
 pub struct Wanted {
-    pub first: usize,
     pub room: usize,
     pub best: u64,
     pub path: [u8; 64],
@@ -51,8 +50,7 @@ fn drained_bound(n: Node, best: u64) -> u64
     words::smaller(words::smaller(by_fast, by_bottom), best)
 }
 
-// Row r is handed on: if it is marked it is counted, and its record, number `count` of all, is written if it is one of the `room`
-// records from number `first` on.
+// Row r is handed on: if it is marked it is counted, and its record, number `count` of all, is written if the list has room for it.
 fn hand_on(
     nodes: &[u64],
     edges: &[u64],
@@ -69,11 +67,7 @@ fn hand_on(
     if !n.marked {
         return count;
     }
-    if count < w.first {
-        return count + 1;
-    }
-    let place = count - w.first;
-    if w.room <= place {
+    if w.room <= count {
         return count + 1;
     }
     let path = w.path;
@@ -81,7 +75,7 @@ fn hand_on(
     let bytes = best.bytes;
     rows::write_record(
         records,
-        place,
+        count,
         n.capacity,
         n.value,
         drained_bound(n, w.best),
@@ -348,7 +342,6 @@ pub fn flag_cutset(
 {
     let path = w.path;
     let without_room = Wanted {
-        first: 0,
         room: 0,
         best: w.best,
         path: path,
@@ -357,30 +350,9 @@ pub fn flag_cutset(
     traverse(nodes, edges, records, without_room, layers, kind, last)
 }
 
-// The records of a relaxed diagram of `count` nodes whose cutset is flagged: the `room` of them from number `first` on are written,
-// and how many there are in all is answered. A caller whose list is short fetches them part by part. The flags are cleared, since the
-// traversal lists what has none yet, and it sets them again.
-pub fn drain_window(
-    nodes: &mut [u64],
-    edges: &[u64],
-    records: &mut [u64],
-    count: usize,
-    w: Wanted,
-    layers: Layers,
-    kind: Kind,
-    last: Last,
-) -> usize
-    requires { ⌜ Windowed w layers last kind count (now nodes) (now edges) (now records) ⌝ }
-    ensures { λ n.
-        ⌜ WindowDrained w layers last kind count (now (nodes .entry)) (now (edges .entry)) (now (records .entry)) n (now (nodes .exit))
-        (now (records .exit)) ⌝ }
-{
-    clear_flags(nodes, count);
-    traverse(nodes, edges, records, w, layers, kind, last)
-}
-
 // The cutset of a relaxed diagram of `count` nodes that has a best value, flagged and drained. The records are counted before any
-// is written, since a list that has no places for all of them stays as it is.
+// is written, since a list that has no places for all of them stays as it is. Between both traversals the flags are cleared, since
+// a traversal lists what has none yet.
 pub fn drain(
     nodes: &mut [u64],
     edges: &[u64],
@@ -400,6 +372,7 @@ pub fn drain(
     if w.room < found {
         return Drained::TooMany;
     }
-    let written = drain_window(nodes, edges, records, count, w, layers, kind, last);
+    clear_flags(nodes, count);
+    let written = traverse(nodes, edges, records, w, layers, kind, last);
     Drained::Records(written)
 }

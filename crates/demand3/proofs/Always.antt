@@ -12,6 +12,7 @@ use lib.Signed.{_≤ℤ_}
 use Rattle.words.specs.I64.{InI64}
 use Rattle.knapsack.specs.Knapsack.{Optimum}
 use Rattle.calls.specs.Asked.{Problem, Given}
+use Rattle.calls.specs.Compile.{Lent}
 use Rattle.calls.specs.Rows.{takenWeight, takenProfit}
 use Rattle.calls.specs.Table.{row, problemRows, Clear, end, past}
 use Rattle.calls.specs.Refusals.{problemChecks}
@@ -20,7 +21,6 @@ use Rattle.calls.proofs.Refusals.{Checked, done, next, checked-append, none-cle
 use Rattle.demand2.specs.Records.{itemsIn, Allowed, Valid, earns}
 use Rattle.demand2.proofs.Numbers.{at-most-natural}
 use Rattle.searches.specs.Places.{Place, givenAt, rootPlace, overPlaces}
-use Rattle.searches.specs.Compile.{Lent}
 use Rattle.searches.specs.Search.{Search, openIn}
 use Rattle.searches.specs.Start as Start
 use Rattle.searches.specs.Start.{startRefusal, begun, start, started}

@@ -9,12 +9,11 @@ use lib.ListN.{length, take, drop}
 use lib.Seq.{split-at}
 use Rattle.words.specs.I64.{InI64}
 use Rattle.calls.specs.Asked.{Given}
-use Rattle.calls.specs.Compile.{Compiled, compiled}
+use Rattle.calls.specs.Compile.{Lent, roomsOf, Compiled, compiled}
 use Rattle.searches.specs.Places.{Place, noPlace, givenAt, rootPlace, overPlaces}
-use Rattle.searches.specs.Compile.{Lent, roomsOf}
 use Rattle.searches.specs.Search.{Search, openIn, without}
 use Rattle.searches.specs.Start.{begun, start}
-use Rattle.searches.specs.Pick.{After, pickedFrom, requestFor, refusing, onePickMore, accepting, appended}
+use Rattle.searches.specs.Pick.{After, pickedFrom, requestFor, refusing, onePickMore, accepting, appended, drainedPlaces}
 use Rattle.searches.specs.Trace.{Blocks, problemAt, Attempt, askedBy, pickedBy, Trace, begins, goes-on}
 use Rattle.demand3.specs.Searches.{itemCount, geometric}
 use Rattle.demand3.specs.Statements.{PicksAreFew}
@@ -84,10 +83,6 @@ given-depth : (p : Place) → givenAt p .depth ≡ p .depth
 unfolding givenAt
 given-depth p = refl
 
-room-is : (l : Lent) → roomsOf l .records ≡ length (l .records)
-unfolding roomsOf
-room-is l = refl
-
 -- picks made and picks that may come
 abbrev pub Paid : ℕ → ℕ → Search → List Place → Type 0
 Paid c n s list = s .picks + worth c n (openIn s list) ≤ geometric c n
@@ -102,7 +97,7 @@ accepting-paid : (c n : ℕ) (s : Search) (left list : List Place) (l : Lent) �
 unfolding accepting onePickMore
 accepting-paid c n s left list l h = omega (arith, ap (worth c n) (accepting-open s left list l))
 
-module _ (b : Blocks) (bound : ℤ) (most : ℕ) (s : Search) (a : Attempt) (h : Holds b bound s (a .held .list)) (few : length (a .held .lent .records) ≤ most) (paid : Paid most (itemCount b) s (a .held .list)) where
+module _ (b : Blocks) (bound : ℤ) (most : ℕ) (s : Search) (a : Attempt) (h : Holds b bound s (a .held .list)) (few : roomsOf (a .held .lent) .records ≤ most) (paid : Paid most (itemCount b) s (a .held .list)) where
   abbrev n : ℕ
   n = itemCount b
 
@@ -114,14 +109,14 @@ module _ (b : Blocks) (bound : ℤ) (most : ℕ) (s : Search) (a : Attempt) (h :
   split p = worth-without most n ps (a .place) (omega (arith, p .is-open, open-length s (a .held .list) (p .listed)))
 
   -- what is appended is worth less than the picked record
-  appended-less : (c : Compiled) (p : Passed (askedBy b a) s (a .held .list)) → effectFor (askedBy b a) s (a .held) .answer ≡ compiled c → suc (worth most n (appended (c .exact) (betterBy c s .best) (effectFor (askedBy b a) s (a .held) .records))) ≤ geometric most (n - placeIn ps (a .place) .depth)
+  appended-less : (c : Compiled) (p : Passed (askedBy b a) s (a .held .list)) → effectFor (askedBy b a) s (a .held) .answer ≡ compiled c → suc (worth most n (appended (c .exact) (betterBy c s .best) (drainedPlaces (effectFor (askedBy b a) s (a .held))))) ≤ geometric most (n - placeIn ps (a .place) .depth)
   unfolding requestFor
   appended-less c p e =
-      let records = effectFor (askedBy b a) s (a .held) .records in
+      let records = drainedPlaces (effectFor (askedBy b a) s (a .held)) in
       let best = betterBy c s .best in
       let fits = answer b bound s a c p e (h .sound) .few in
       let depth : pickedFrom (a .held .list) (a .place) .depth ≡ placeIn ps (a .place) .depth = ap (λ (g : Given). g .depth) (picked-is s (a .held .list) (a .place) (p .is-open)) ∙ given-depth (placeIn ps (a .place)) in
-      worth-less most n (placeIn ps (a .place) .depth) (appended (c .exact) best records) (omega (arith, appended-length (c .exact) best records, fits, room-is (a .held .lent)))
+      worth-less most n (placeIn ps (a .place) .depth) (appended (c .exact) best records) (omega (arith, appended-length (c .exact) best records, fits))
       (λ r i. let d = drained-place b bound s a c p e (h .sound) r (appended-in (c .exact) best records r i) in
       (omega (arith, d .deeper, depth, given-depth r), omega (arith, d .deep, given-depth r)))
 
@@ -133,7 +128,7 @@ module _ (b : Blocks) (bound : ℤ) (most : ℕ) (s : Search) (a : Attempt) (h :
   went-paid r (dropped p low) =
       accepting-paid most n s (others (askedBy b a) s (a .held .list)) (a .held .list) _ (omega (arith, paid, split p, geometric-some most (n - placeIn ps (a .place) .depth)))
   went-paid r (grown c p e l) =
-      let records = effectFor (askedBy b a) s (a .held) .records in
+      let records = drainedPlaces (effectFor (askedBy b a) s (a .held)) in
       accepting-paid most n (betterBy c s) (leftBy (askedBy b a) s (a .held) c) (a .held .list) _
       (omega (arith, paid, split (p .passed), appended-less c (p .passed) e, bettered-picks (bettered (c .bestExact) (c .exactPath) s), worth-append most n (others (askedBy b a) s (a .held .list)) (appended (c .exact) (betterBy c s .best) records)))
 

@@ -11,16 +11,15 @@ use lib.Seq.{getD-take, length-take-le}
 use lib.Signed.{_≤ℤ_, _<ℤ_, clashℤ, <ℤ-≤ℤ-trans}
 use Rattle.words.specs.I64.{InI64}
 use Rattle.calls.specs.Asked.{Given}
-use Rattle.calls.specs.Compile.{Request, Compiled, compiled}
+use Rattle.calls.specs.Compile.{Request, roomsOf, Compiled, compiled}
 use Rattle.demand2.specs.Records.{Valid, Completes, earns}
 use Rattle.demand2.specs.Statements.{Drained}
 use Rattle.demand2.proofs.Achieved.{best-exact-achieved}
 use Rattle.demand2.proofs.Exact.{optimum-exists, exact-finds-optimum}
 use Rattle.demand2.proofs.Drained.{drained-records, drained-cover}
 use Rattle.searches.specs.Places.{Place, noPlace, givenAt}
-use Rattle.searches.specs.Compile.{roomsOf}
 use Rattle.searches.specs.Search.{Search, openIn}
-use Rattle.searches.specs.Pick.{pickedFrom, requestFor, appended}
+use Rattle.searches.specs.Pick.{pickedFrom, requestFor, appended, drainedPlaces}
 use Rattle.searches.specs.Trace.{Blocks, Attempt, askedBy}
 use Rattle.demand3.specs.Searches.{problemOf, Leads, IsSelection}
 use Rattle.demand3.proofs.Order.{at-most-trans, at-most-below}
@@ -53,8 +52,8 @@ module _ (b : Blocks) (bound : ℤ) (s : Search) (a : Attempt) (c : Compiled) (p
   abbrev request : Request
   request = requestFor (askedBy b a) s given
 
-  abbrev drainedPlaces : List Place
-  drainedPlaces = effectFor (askedBy b a) s (a .held) .records
+  abbrev places : List Place
+  places = drainedPlaces (effectFor (askedBy b a) s (a .held))
 
   below : a .place < length ps
   below = let h = p .is-open in omega (arith, open-length s (a .held .list) (p .listed))
@@ -65,11 +64,11 @@ module _ (b : Blocks) (bound : ℤ) (s : Search) (a : Attempt) (c : Compiled) (p
 
   -- ---- each drained record, in its place
 
-  pub drained-place : (r : Place) → List·Memᴰ r drainedPlaces → Drained request c (givenAt r)
+  pub drained-place : (r : Place) → List·Memᴰ r places → Drained request c (givenAt r)
   unfolding requestFor
-  drained-place r i = drained-records request c (map givenAt drainedPlaces) (answer .finishes) refl (givenAt r) (Memᴰ·map givenAt i)
+  drained-place r i = drained-records request c (map givenAt places) (answer .finishes) refl (givenAt r) (Memᴰ·map givenAt i)
 
-  drained-valid : (r : Place) → List·Memᴰ r drainedPlaces → Valid (problemOf b) (givenAt r)
+  drained-valid : (r : Place) → List·Memᴰ r places → Valid (problemOf b) (givenAt r)
   unfolding requestFor
   drained-valid r i = width-valid b (a .width) 1 (givenAt r) (drained-place r i .valid)
 
@@ -79,7 +78,7 @@ module _ (b : Blocks) (bound : ℤ) (s : Search) (a : Attempt) (c : Compiled) (p
   unfolding requestFor
   found-if-exact exact selection k above =
       let f = answer .finishes in
-      let rs = map givenAt drainedPlaces in
+      let rs = map givenAt places in
       let y = optimum-exists request c rs f in
       let least = y .1 .most selection (width-completes b 1 (a .width) given selection k) in
       let found = exact-finds-optimum request c rs f exact (y .0) (y .1) .0 (<ℤ-≤ℤ-trans above least) in
@@ -87,18 +86,18 @@ module _ (b : Blocks) (bound : ℤ) (s : Search) (a : Attempt) (c : Compiled) (p
 
   -- ---- where it isn't, a drained record that is appended leads to it
 
-  drained-leads : (x : ℤ) → betterBy c s .best <ℤ x → (selection : List Bool) → Completes (problemOf b) given selection → x ≤ℤ earns (problemOf b) selection → c .exact ≡ false → Leads b (appended (c .exact) (betterBy c s .best) drainedPlaces) x
+  drained-leads : (x : ℤ) → betterBy c s .best <ℤ x → (selection : List Bool) → Completes (problemOf b) given selection → x ≤ℤ earns (problemOf b) selection → c .exact ≡ false → Leads b (appended (c .exact) (betterBy c s .best) places) x
   unfolding requestFor appended
   drained-leads x above selection k earned inexact =
       let better-is = bettered (c .bestExact) (c .exactPath) s in
-      let v = drained-cover request c (map givenAt drainedPlaces) (answer .finishes) refl x (at-most-below _ _ x (bettered-up better-is) above)
+      let v = drained-cover request c (map givenAt places) (answer .finishes) refl x (at-most-below _ _ x (bettered-up better-is) above)
       (λ y q. at-most-below y _ x (bettered-least better-is y q) above) selection (width-completes b 1 (a .width) given selection k) earned in
-      let r = Memᴰ·of-map givenAt drainedPlaces (v .is-drained) in
+      let r = Memᴰ·of-map givenAt places (v .is-drained) in
       let high : x ≤ℤ r .0 .bound = subst (λ (t : ℤ). x ≤ℤ t) (ap (λ (g : Given). g .bound) (sym (r .2)) ∙ given-bound (r .0)) (v .bound) in
-      let kept = above-has (betterBy c s .best) drainedPlaces (r .0) (r .1) (<ℤ-≤ℤ-trans above high) in
+      let kept = above-has (betterBy c s .best) places (r .0) (r .1) (<ℤ-≤ℤ-trans above high) in
       record {
         place = r .0;
-        is-open = subst (λ (t : Bool). List·Memᴰ (r .0) (appended t (betterBy c s .best) drainedPlaces)) (sym inexact) kept;
+        is-open = subst (λ (t : Bool). List·Memᴰ (r .0) (appended t (betterBy c s .best) places)) (sym inexact) kept;
         bound = high;
         selection = v .selection;
         completes = width-completes b (a .width) 1 (givenAt (r .0)) (v .selection) (subst (λ (g : Given). Completes (request .problem) g (v .selection)) (sym (r .2)) (v .completes));
@@ -129,7 +128,7 @@ module _ (b : Blocks) (bound : ℤ) (s : Search) (a : Attempt) (c : Compiled) (p
   unfolding requestFor
   bettered-sound t (stayed h) = (z .best-is-i64, z .selection, z .beats, z .unheld)
   bettered-sound t (replaced v found above) =
-      let got = best-exact-achieved request c (map givenAt drainedPlaces) (answer .finishes) v found in (
+      let got = best-exact-achieved request c (map givenAt places) (answer .finishes) v found in (
         achieved-is-i64 (request .problem) given (c .exactPath) v (p .allowed) got,
         (λ _. achieved-selection b (a .width) given (c .exactPath) v got),
         (λ _. at-most-below bound (s .best) v (bound-at-most b bound s ps z) above),
@@ -144,7 +143,7 @@ module _ (b : Blocks) (bound : ℤ) (s : Search) (a : Attempt) (c : Compiled) (p
         allowed = z .allowed;
         best-is-i64 = y .0;
         valid = λ r i.
-            ⊎-elim (λ k. z .valid r (without-in ps (a .place) r below k)) (λ k. drained-valid r (appended-in (c .exact) (betterBy c s .best) drainedPlaces r k))
+            ⊎-elim (λ k. z .valid r (without-in ps (a .place) r below k)) (λ k. drained-valid r (appended-in (c .exact) (betterBy c s .best) places r k))
             (List·Memᴰ·append-cases (others (askedBy b a) s (a .held .list)) i);
         selection = y .1;
         beats = y .2;

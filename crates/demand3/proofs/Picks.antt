@@ -14,14 +14,13 @@ use lib.Signed.{_≤ℤ_, _<ℤ_, ltZ, ≤ℤ-refl}
 use borrow.Author.Tests.{leb-true, leb-false}
 use Rattle.knapsack.proofs.Cases.{by-test}
 use Rattle.calls.specs.Compile as Call
-use Rattle.calls.specs.Compile.{Compiled, refused, compiled}
+use Rattle.calls.specs.Compile.{roomsOf, Compiled, refused, compiled, Effect, compileEffect, after}
 use Rattle.calls.specs.Table.{Clear, end, past}
 use Rattle.calls.proofs.Refusals.{none-clear, clear-none}
 use Rattle.demand2.specs.Records.{Allowed, Valid}
 use Rattle.searches.specs.Places.{Place}
-use Rattle.searches.specs.Compile.{Effect, roomsOf, compileEffect}
 use Rattle.searches.specs.Search.{Search, mostPicks, openIn, without}
-use Rattle.searches.specs.Pick.{Asked, Held, After, pickedFrom, pickRefusal, refusing, better, accepting, ifRoom, lentAfter, afterCompile, ifAbove, unless, pick}
+use Rattle.searches.specs.Pick.{Asked, Held, After, pickedFrom, pickRefusal, refusing, better, accepting, ifRoom, drainedPlaces, afterCompile, ifAbove, unless, pick}
 use Rattle.searches.specs.Rows.{Row14, checkRows, requestOf, Runs, openAfter}
 use Rattle.searches.proofs.Refusals.{pick-checked}
 use Rattle.demand3.proofs.Order.{below-if, at-most-if, at-most-of-below}
@@ -104,7 +103,7 @@ abbrev pub betterBy : Compiled → Search → Search
 betterBy c s = better (c .bestExact) (c .exactPath) s
 
 abbrev pub leftBy : Asked → Search → Held → Compiled → List Place
-leftBy q s h c = openAfter q s (h .list) c (effectFor q s h .records)
+leftBy q s h c = openAfter q s (h .list) c (drainedPlaces (effectFor q s h))
 
 -- a pick that passes, and whose record is compiled
 pub record Compiles (q : Asked) (s : Search) (h : Held) : Type 0 where
@@ -113,12 +112,12 @@ pub record Compiles (q : Asked) (s : Search) (h : Held) : Type 0 where
 
 pub data Went (q : Asked) (s : Search) (h : Held) : After → Type 0 where
   early : (n : ℕ) → pickRefusal q s (h .list) ≡ some n → Went q s h (refusing n s (h .list) (h .lent))
-  halted : (n : ℕ) → Compiles q s h → effectFor q s h .answer ≡ refused n → Went q s h (refusing n s (h .list) (lentAfter (effectFor q s h) (h .lent)))
-  outgrown : (c : Compiled) → Compiles q s h → effectFor q s h .answer ≡ compiled c → length (h .list) < length (leftBy q s h c) → Went q s h (refusing 13 s (h .list) (lentAfter (effectFor q s h) (h .lent)))
+  halted : (n : ℕ) → Compiles q s h → effectFor q s h .answer ≡ refused n → Went q s h (refusing n s (h .list) (after (effectFor q s h) (h .lent) .lent))
+  outgrown : (c : Compiled) → Compiles q s h → effectFor q s h .answer ≡ compiled c → length (h .list) < length (leftBy q s h c) → Went q s h (refusing 13 s (h .list) (after (effectFor q s h) (h .lent) .lent))
   dropped : Passed q s (h .list) → pickedFrom (h .list) (q .place) .bound ≤ℤ s .best → Went q s h (accepting s (others q s (h .list)) (h .list) (h .lent))
-  grown : (c : Compiled) → Compiles q s h → effectFor q s h .answer ≡ compiled c → length (leftBy q s h c) ≤ length (h .list) → Went q s h (accepting (betterBy c s) (leftBy q s h c) (h .list) (lentAfter (effectFor q s h) (h .lent)))
+  grown : (c : Compiled) → Compiles q s h → effectFor q s h .answer ≡ compiled c → length (leftBy q s h c) ≤ length (h .list) → Went q s h (accepting (betterBy c s) (leftBy q s h c) (h .list) (after (effectFor q s h) (h .lent) .lent))
 
-room-went : (q : Asked) (s : Search) (h : Held) (c : Compiled) → Compiles q s h → effectFor q s h .answer ≡ compiled c → (b : Bool) → leb (length (leftBy q s h c)) (length (h .list)) ≡ b → Went q s h (ifRoom b s (betterBy c s) (leftBy q s h c) (h .list) (lentAfter (effectFor q s h) (h .lent)))
+room-went : (q : Asked) (s : Search) (h : Held) (c : Compiled) → Compiles q s h → effectFor q s h .answer ≡ compiled c → (b : Bool) → leb (length (leftBy q s h c)) (length (h .list)) ≡ b → Went q s h (ifRoom b s (betterBy c s) (leftBy q s h c) (h .list) (after (effectFor q s h) (h .lent) .lent))
 unfolding ifRoom
 room-went q s h c p e true t = grown c p e (leb-true (length (leftBy q s h c)) (length (h .list)) t)
 room-went q s h c p e false t = outgrown c p e (leb-false (length (leftBy q s h c)) (length (h .list)) t)

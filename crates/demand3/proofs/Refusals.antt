@@ -12,11 +12,11 @@ use Rattle.diagram.specs.Tables.{Diagram}
 use Rattle.theorems.proofs.Fits.{Stop, ten, eleven, twelve}
 use Rattle.calls.specs.Asked.{Given}
 use Rattle.calls.specs.Refusals.{compileRefusal}
-use Rattle.calls.specs.Compile.{Request, Rooms, refused, runOf}
+use Rattle.calls.specs.Compile.{Request, Rooms, refused, Effect, effect, runOf, compileEffect}
+use Rattle.call_laws.proofs.View as Compiling
 use Rattle.call_laws.proofs.Refusals.{run-stop, not-ten}
 use Rattle.demand2.specs.Records.{Allowed, Valid}
 use Rattle.demand2.proofs.Accepted.{accepted-is}
-use Rattle.searches.specs.Compile.{Effect, effect, compileEffect}
 use Rattle.searches.specs.Search.{Search, mostPicks, openIn}
 use Rattle.searches.specs.Pick.{After, refusedBy, pickedFrom, requestFor, refusing, accepting}
 use Rattle.searches.specs.Trace.{Blocks, Attempt, askedBy, pickedBy}
@@ -24,7 +24,6 @@ use Rattle.demand3.specs.Searches.{problemOf}
 use Rattle.demand3.specs.Statements.{RefusedForRoomAlone}
 use Rattle.demand3.proofs.Lists.{picked-in, placeIn}
 use Rattle.demand3.proofs.Widths.{width-valid, width-allowed}
-use Rattle.demand3.proofs.Compiled as Compiling
 use Rattle.demand3.proofs.Picks.{Passed, passed, Went, early, halted, outgrown, dropped, grown, went}
 use Rattle.demand3.proofs.Sound.{Holds}
 use Rattle.demand3.proofs.Grown.{open-length, picked-is}
@@ -43,7 +42,7 @@ stop-for-room q m d relaxed c ten e = absurd (not-ten q m d c e (λ x. let z : _
 stop-for-room q m d relaxed c eleven e = inl refl
 stop-for-room q m d relaxed c twelve e = inr (inl refl)
 
-compiled-answer : (q : Request) (m : Rooms) (n : ℕ) → q .mode ≡ relaxing → Allowed (q .problem) → Valid (q .problem) (q .given) → (x : Effect) → Compiling.Went q m x → x .answer ≡ refused n → ForRoom n
+compiled-answer : (q : Request) (m : Rooms) (n : ℕ) → q .mode ≡ relaxing → Allowed (q .problem) → Valid (q .problem) (q .given) → (x : Effect) → Compiling.View q m x → x .answer ≡ refused n → ForRoom n
 unfolding effect
 compiled-answer q m n relaxed a v x (Compiling.early k e) r = let c = accepted-is (q .problem) (q .given) .1 a v in let z : _≡_ {A = ℕ} 0 1 = cc in absurd (omega arith)
 compiled-answer q m n relaxed a v x (Compiling.halted k d e f) r =
@@ -54,7 +53,7 @@ compiled-answer q m n relaxed a v x (Compiling.done o e f h) r = let z : _≡_ {
 
 -- A relaxed compile of a valid record is refused for want of room alone.
 pub compile-for-room : (q : Request) (m : Rooms) (n : ℕ) → q .mode ≡ relaxing → Allowed (q .problem) → Valid (q .problem) (q .given) → compileEffect q m .answer ≡ refused n → ForRoom n
-compile-for-room q m n relaxed a v e = compiled-answer q m n relaxed a v (compileEffect q m) (Compiling.went q m) e
+compile-for-room q m n relaxed a v e = compiled-answer q m n relaxed a v (compileEffect q m) (Compiling.view q m) e
 
 -- ---- the pick
 

@@ -11,17 +11,16 @@ use Rattle.diagram.specs.After6.{Outcome, drained, finished, run}
 use Rattle.diagram.specs.Record.{Record}
 use Rattle.diagram.specs.Run.{relaxing, Settings}
 use Rattle.calls.specs.Asked.{recordOf}
-use Rattle.calls.specs.Compile.{Request, Rooms, Compiled, refused, compiled, settingsOf, runOf}
+use Rattle.calls.specs.Compile.{Request, Rooms, roomsOf, Compiled, refused, compiled, Effect, effect, settingsOf, runOf}
+use Rattle.call_laws.proofs.View as Compiling
 use Rattle.demand2.specs.Records.{itemsIn, Allowed, Valid}
 use Rattle.demand2.proofs.Accepted.{accepted-is, count-is}
-use Rattle.searches.specs.Compile.{Effect, effect, roomsOf}
 use Rattle.searches.specs.Search.{Search, openIn}
-use Rattle.searches.specs.Pick.{After, accepted, pickedFrom, requestFor, accepting, appended}
+use Rattle.searches.specs.Pick.{After, accepted, pickedFrom, requestFor, accepting, appended, drainedPlaces}
 use Rattle.searches.specs.Trace.{Blocks, Attempt, askedBy, pickedBy}
 use Rattle.demand3.specs.Searches.{nodesFor, edgesFor, Roomy}
 use Rattle.demand3.specs.Statements.{RoomIsEnough}
 use Rattle.demand3.proofs.Lists.{without-length, appended-length}
-use Rattle.demand3.proofs.Compiled as Compiling
 use Rattle.demand3.proofs.Picks.{Passed, passed, others, effectFor, betterBy, leftBy, Went, early, halted, outgrown, dropped, grown, went}
 use Rattle.demand3.proofs.Sound.{Holds}
 use Rattle.demand3.proofs.Grown.{open-length, answer}
@@ -45,7 +44,7 @@ RelaxedRunsThrough =
 -- ---- the compile
 
 -- a request whose run finishes with so few records that the scratch list holds them isn't refused
-not-refused : (q : Request) (m : Rooms) (o : Outcome) → Allowed (q .problem) → Valid (q .problem) (q .given) → runOf q m ≡ finished o → length (drained (q .given .path) o) ≤ m .records → (n : ℕ) (x : Effect) → Compiling.Went q m x → x .answer ≡ refused n → ⊥
+not-refused : (q : Request) (m : Rooms) (o : Outcome) → Allowed (q .problem) → Valid (q .problem) (q .given) → runOf q m ≡ finished o → length (drained (q .given .path) o) ≤ m .records → (n : ℕ) (x : Effect) → Compiling.View q m x → x .answer ≡ refused n → ⊥
 unfolding effect
 not-refused q m o a v runs few n x (Compiling.early k e) r = let c = accepted-is (q .problem) (q .given) .1 a v in let z : _≡_ {A = ℕ} 0 1 = cc in omega arith
 not-refused q m o a v runs few n x (Compiling.halted k d e f) r = let z : _≡_ {A = ℕ} 0 1 = cc in omega arith
@@ -77,13 +76,13 @@ module _ (through : RelaxedRunsThrough) (b : Blocks) (bound : ℤ) (s : Search) 
   compiles n e =
       let m = roomsOf (a .held .lent) in
       let f = roomy-runs through request m refl (p .allowed) (room .nodes) (room .edges) (room .scratch) in
-      not-refused request m (f .outcome) (p .allowed) (p .valid) (f .runs) (f .few) n (effectFor (askedBy b a) s (a .held)) (Compiling.went request m) e
+      not-refused request m (f .outcome) (p .allowed) (p .valid) (f .runs) (f .few) n (effectFor (askedBy b a) s (a .held)) (Compiling.view request m) e
 
   -- what is left and what is appended has room in the list
   left-fits : (c : Compiled) → effectFor (askedBy b a) s (a .held) .answer ≡ compiled c → length (leftBy (askedBy b a) s (a .held) c) ≤ length (a .held .list)
   unfolding roomsOf
   left-fits c e =
-      let records = effectFor (askedBy b a) s (a .held) .records in
+      let records = drainedPlaces (effectFor (askedBy b a) s (a .held)) in
       let best = betterBy c s .best in
       let ps = openIn s (a .held .list) in
       let many = open-length s (a .held .list) (h .listed) in

@@ -10,22 +10,21 @@ use lib.ListN.{length}
 use lib.Signed.{_≤ℤ_, clashℤ}
 use Rattle.diagram.specs.After6.{Outcome, drained}
 use Rattle.calls.specs.Asked.{Problem}
-use Rattle.calls.specs.Compile.{Request, Rooms, Compiled, refused, compiled, compiledOf}
+use Rattle.calls.specs.Compile.{Request, Rooms, roomsOf, Compiled, refused, compiled, compiledOf, Effect, effect}
+use Rattle.call_laws.proofs.View as Compiling
 use Rattle.calls.specs.Table.{row, problemRows, runRows, First, here, later, Clear, end, past}
 use Rattle.calls.proofs.Rows.{first-in-front, first-behind, first-either, clear-both, first-between, Told, told-number, told-clear, told-exactly, told-none}
 use Rattle.calls.proofs.Refusals.{given-first, none-clear}
 use Rattle.call_laws.proofs.Refusals.{run-stop, finished-stop, stop-row, drained-row, same-outcome, done-rows}
 use Rattle.demand2.proofs.Accepted.{accepted-is}
 use Rattle.searches.specs.Places.{Place, placeOf}
-use Rattle.searches.specs.Compile.{Effect, effect, roomsOf}
 use Rattle.searches.specs.Search.{Search}
 use Rattle.searches.specs.Start as Start
 use Rattle.searches.specs.Start.{Started, started, startRefusal, start}
-use Rattle.searches.specs.Pick.{Asked, Held, After, Picked, refusedBy, accepted, pickedFrom, pickRefusal, requestFor, refusing, accepting, pick}
+use Rattle.searches.specs.Pick.{Asked, Held, After, Picked, refusedBy, accepted, pickedFrom, pickRefusal, requestFor, refusing, accepting, drainedPlaces, pick}
 use Rattle.searches.specs.Rows.{startRows, requestOf, Runs, openAfter, Outgrows, PickRow10, PickRow11, PickRow12, PickRow13, pickRunRows, pickRows}
 use Rattle.searches.proofs.Refusals.{start-checked, pick-checked}
 use Rattle.demand3.specs.Refusals.{StartRefusedExactly, StartedExactly, StartNumbers, PickRefusedExactly, AcceptedExactly, PickNumbers}
-use Rattle.demand3.proofs.Compiled as Compiling
 use Rattle.demand3.proofs.Compiled.{DoneWith, done-with}
 use Rattle.demand3.proofs.Picks.{passed-rows, Compiles, effectFor, leftBy, Went, early, halted, outgrown, dropped, grown, went}
 
@@ -83,7 +82,7 @@ module _ (q : Asked) (s : Search) (h : Held) where
       later (λ (z : PickRow10 q s h). x (z .1)) (later (λ (z : PickRow11 q s h). y (z .1)) (later (λ (z : PickRow12 q s h). w (z .1)) (here s13)))
 
   -- the compile is refused: the run's own row
-  halted-row : Compiles q s h → (n : ℕ) (x : Effect) → Compiling.Went request rooms x → x .answer ≡ refused n → First (runRows request rooms) n
+  halted-row : Compiles q s h → (n : ℕ) (x : Effect) → Compiling.View request rooms x → x .answer ≡ refused n → First (runRows request rooms) n
   unfolding effect requestFor
   halted-row p n x (Compiling.early k e) r = let c = accepted-is (q .problem) (request .given) .1 (p .passed .allowed) (p .passed .valid) in let z : _≡_ {A = ℕ} 0 1 = cc in absurd (omega arith)
   halted-row p n x (Compiling.halted k d e f) r = let z : k ≡ n = cc in subst (λ (i : ℕ). First (runRows request rooms) i) z (stop-row request rooms d (run-stop request rooms k d f) f)
@@ -92,7 +91,8 @@ module _ (q : Asked) (s : Search) (h : Held) where
 
   -- the compile is accepted: what is then open, by its outcome
   left-is : (c : Compiled) (o : Outcome) → DoneWith request rooms (effectFor q s h) c o → leftBy q s h c ≡ openAfter q s (h .list) (compiledOf (request .given .path) o) (map placeOf (drained (request .given .path) o))
-  left-is c o d = rw (d .answers, d .records) refl
+  unfolding drainedPlaces
+  left-is c o d = rw (d .answers, d .drains) refl
 
   outgrown-row : (c : Compiled) → Compiles q s h → effectFor q s h .answer ≡ compiled c → length (h .list) < length (leftBy q s h c) → First (pickRunRows q s h) 13
   outgrown-row c p e l =
@@ -122,7 +122,7 @@ module _ (q : Asked) (s : Search) (h : Held) where
   went-told : (r : After) → Went q s h r → Told refusedBy (pickRows q s h) (r .answer)
   unfolding refusing accepting pickRefusal
   went-told r (early n e) = told-number (first-in-front (pickRunRows q s h) (given-first (pick-checked q s (h .list)) n e))
-  went-told r (halted n p e) = told-number (first-behind (passed-rows q s (h .list) (p .passed)) (run-first (p .runs) (halted-row p n (effectFor q s h) (Compiling.went request rooms) e)))
+  went-told r (halted n p e) = told-number (first-behind (passed-rows q s (h .list) (p .passed)) (run-first (p .runs) (halted-row p n (effectFor q s h) (Compiling.view request rooms) e)))
   went-told r (outgrown c p e l) = told-number (first-behind (passed-rows q s (h .list) (p .passed)) (outgrown-row c p e l))
   went-told r (dropped p low) = told-clear no-pick-number (clear-both (passed-rows q s (h .list) p) (dropped-rows low))
   went-told r (grown c p e l) = told-clear no-pick-number (clear-both (passed-rows q s (h .list) (p .passed)) (grown-rows c e l))

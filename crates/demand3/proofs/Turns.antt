@@ -4,8 +4,8 @@ use mathlib.Core.List.{List, [], _∷_, List·Memᴰ, List·Memᴰ·head, List·
 use Prim.Native.Nat.{ℕ, _+_, _≤_}
 use native.Mathlib.Omega.{arith}
 use lib.IntN.{ℤ}
-use lib.ListN.{length}
 use Rattle.diagram.specs.After4.{CutsetKind}
+use Rattle.calls.specs.Compile.{roomsOf}
 use Rattle.searches.specs.Search.{Search}
 use Rattle.searches.specs.Start.{start}
 use Rattle.searches.specs.Trace.{Blocks, problemAt, Attempt, Trace, begins, goes-on}
@@ -19,7 +19,7 @@ use Rattle.demand3.proofs.Empties.{begun-picks, pick-counted}
 abbrev attemptOf : ℕ → CutsetKind → Turn → Moment → Attempt
 attemptOf width kind t m = record { width = width; kind = kind; place = t .place; held = record { list = m .list; lent = t .lent } }
 
-turns-trace : (b : Blocks) (bound : ℤ) (most width : ℕ) (kind : CutsetKind) (turns : List Turn) (m : Moment) → ((t : Turn) → List·Memᴰ t turns → length (t .lent .records) ≤ most) → Trace b bound most (m .search) (m .list) → let e = afterTurns b width kind turns m in Trace b bound most (e .search) (e .list)
+turns-trace : (b : Blocks) (bound : ℤ) (most width : ℕ) (kind : CutsetKind) (turns : List Turn) (m : Moment) → ((t : Turn) → List·Memᴰ t turns → roomsOf (t .lent) .records ≤ most) → Trace b bound most (m .search) (m .list) → let e = afterTurns b width kind turns m in Trace b bound most (e .search) (e .list)
 unfolding afterTurns turned
 turns-trace b bound most width kind [] m few t = t
 turns-trace b bound most width kind (u ∷ turns) m few t =

@@ -8,9 +8,9 @@ use lib.Signed.{_≤ℤ_, ltZ}
 use mathlib.Core.Bool.{cond}
 use Rattle.words.specs.I64.{i64Max}
 use Rattle.calls.specs.Asked.{Problem, Given}
+use Rattle.calls.specs.Compile.{roomsOf}
 use Rattle.demand2.specs.Records.{Completes, earns, Achieved}
 use Rattle.searches.specs.Places.{Place, givenAt}
-use Rattle.searches.specs.Compile.{roomsOf}
 use Rattle.searches.specs.Search.{Search}
 use Rattle.searches.specs.Trace.{Blocks, problemAt, Attempt}
 
@@ -60,5 +60,5 @@ pub record Roomy (b : Blocks) (s : Search) (a : Attempt) : Type 0 where
   pub place : a .place < s .opened
   pub nodes : nodesFor (a .width) (itemCount b) ≤ roomsOf (a .held .lent) .nodes
   pub edges : edgesFor (a .width) (itemCount b) ≤ roomsOf (a .held .lent) .edges
-  pub scratch : nodesFor (a .width) (itemCount b) ≤ length (a .held .lent .records)
-  pub list : s .opened + length (a .held .lent .records) ≤ length (a .held .list)
+  pub scratch : nodesFor (a .width) (itemCount b) ≤ roomsOf (a .held .lent) .records
+  pub list : s .opened + roomsOf (a .held .lent) .records ≤ length (a .held .list)

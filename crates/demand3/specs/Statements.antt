@@ -10,9 +10,9 @@ use lib.Signed.{_<ℤ_}
 use Rattle.words.specs.I64.{InI64}
 use Rattle.knapsack.specs.Knapsack.{Optimum}
 use Rattle.diagram.specs.After4.{CutsetKind}
+use Rattle.calls.specs.Compile.{Lent, roomsOf}
 use Rattle.demand2.specs.Records.{itemsIn, Valid}
 use Rattle.searches.specs.Places.{Place, givenAt}
-use Rattle.searches.specs.Compile.{Lent}
 use Rattle.searches.specs.Search.{Search, mostPicks, openIn}
 use Rattle.searches.specs.Start.{start, started}
 use Rattle.searches.specs.Pick as Pick
@@ -86,7 +86,7 @@ afterPicks b host (suc n) m = let p = pickedBy b (m .search) (host (m .search) (
 -- a host that leaves the open records as they are, and lends enough room and at most `most` scratch places, wherever a record is open
 pub record Keeps (b : Blocks) (most : ℕ) (host : Strategy) : Type 0 where
   pub as-left : (s : Search) (list : List Place) → s .opened ≤ length list → openIn s (host s list .held .list) ≡ openIn s list
-  pub scratch : (s : Search) (list : List Place) → length (host s list .held .lent .records) ≤ most
+  pub scratch : (s : Search) (list : List Place) → roomsOf (host s list .held .lent) .records ≤ most
   pub roomy : (s : Search) (list : List Place) → s .opened ≤ length list → 0 < s .opened → Roomy b s (host s list)
 
 -- there are such hosts, for every width that passes
@@ -138,6 +138,6 @@ pub record Demanded (b : Blocks) (bound : ℤ) (most count : ℕ) (s : Search) :
 abbrev pub OneSearch : Type 0
 OneSearch =
     (b : Blocks) (width : ℕ) (kind : CutsetKind) (bound : ℤ) (list : List Place) (s : Search) → InI64 bound → start (problemAt b width) bound list .answer ≡ started s →
-    (turns : List Turn) (most : ℕ) → ((t : Turn) → List·Memᴰ t turns → length (t .lent .records) ≤ most) →
+    (turns : List Turn) (most : ℕ) → ((t : Turn) → List·Memᴰ t turns → roomsOf (t .lent) .records ≤ most) →
     let m : Moment = record { search = s; list = start (problemAt b width) bound list .list } in
     Demanded b bound most (acceptedIn b width kind turns m) (afterTurns b width kind turns m .search)

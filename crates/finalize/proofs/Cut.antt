@@ -28,7 +28,7 @@ use Rattle.finish.proofs.Rewriting.{nodes-within}
 use Rattle.cutset.specs.declared.Kind.{Kind}
 use Rattle.cutset.specs.declared.Drained.{Drained}
 use Rattle.cutset.specs.declared.Drained.the-variants.{Records}
-use Rattle.cutset.specs.Trace.{Settled, Tracing, Traced}
+use Rattle.cutset.specs.Trace.{Tracing, Traced}
 use Rattle.cutset.specs.Whole.{kindOf, counting, Shaped, cutsetFrom, Bounded, Drainable, answer, fitting, Drains, DrainedOff}
 use Rattle.cutset.proofs.Whole.{settled-as, count-first, counted, list-kept}
 use Rattle.finalize.specs.declared.Given.{Given}
@@ -43,19 +43,15 @@ none-fits room = let t : leb 0 room ≡ true = le-leb 0 room (omega arith) in rw
 
 -- ---- the best value is no matter of what is asked of the tables
 
-settled-any : (given : Given) (a b : ℕ) (d : Diagram) (rs : List ℕ) → Settled (wanted given a) d rs → Settled (wanted given b) d rs
-settled-any given a b d rs z =
-    settled-as (wanted given a) (wanted given b) d rs rs refl (z .depth-in) (z .record-room) z
-
-pub bounded-any : (given : Given) (a b : ℕ) (l : Layers) (s : Last) (d : Diagram) (oldN oldE : List ℕ) (count : ℕ) (ns es rs : List ℕ) → Bounded (wanted given a) l s d oldN oldE count ns es rs → Bounded (wanted given b) l s d oldN oldE count ns es rs
+bounded-any : (given : Given) (a b : ℕ) (l : Layers) (s : Last) (d : Diagram) (oldN oldE : List ℕ) (count : ℕ) (ns es rs : List ℕ) → Bounded (wanted given a) l s d oldN oldE count ns es rs → Bounded (wanted given b) l s d oldN oldE count ns es rs
 bounded-any given a b l s d oldN oldE count ns es rs x =
-    record { nodes-are = x .nodes-are; edges-are = x .edges-are; count-is = x .count-is; clear = x .clear; settled = settled-any given a b d rs (x .settled); shaped = x .shaped }
+    record { nodes-are = x .nodes-are; edges-are = x .edges-are; count-is = x .count-is; clear = x .clear; settled = settled-as (wanted given a) (given .room) b d rs (x .settled .record-room) (x .settled); shaped = x .shaped }
 
 module _ (count : ℕ) (best : Best) (given : Given) (layers : Layers) (last : Last) (ns es rs : List ℕ) where
   pub drain-asked : (v : ℕ) → Cuttable count best given layers last ns es rs → Drainable (wanted given v) layers last count ns es rs
   drain-asked v x =
       let y = x .drainable in
-      record { diagram = y .diagram; oldN = y .oldN; oldE = y .oldE; bounded = bounded-any given 0 v layers last (y .diagram) (y .oldN) (y .oldE) count ns es rs (y .bounded); from-start = refl; sized = y .sized; layers-in = y .layers-in }
+      record { diagram = y .diagram; oldN = y .oldN; oldE = y .oldE; bounded = bounded-any given 0 v layers last (y .diagram) (y .oldN) (y .oldE) count ns es rs (y .bounded); sized = y .sized; layers-in = y .layers-in }
 
   pub flag-asked : Cuttable count best given layers last ns es rs → Tracing (Shaped layers last) (counting (wanted given 0)) 0 ns es rs × (Sized layers × (layers .count ≤ 65))
   flag-asked x = count-first (wanted given 0) layers last count ns es rs (x .drainable)

@@ -5,6 +5,5 @@ pub mod Cut
 pub mod Outcomes
 pub mod LastLayer
 pub mod Standing
-pub mod Counting
 pub mod Grown
 pub mod Whole

@@ -91,7 +91,7 @@ module _ (d : Diagram) (oldN oldE : List ℕ) (count : ℕ) (given : Given) (lay
         }
 
     -- what the cutset asks of the tables
-    pub bounded-stands : Bounded (wanted given 0) layers last (bounded m d) oldN oldE count us es rs
+    bounded-stands : Bounded (wanted given 0) layers last (bounded m d) oldN oldE count us es rs
     unfolding withNodes
     bounded-stands =
         let rows = localBounds m d (d .nodes) in
@@ -115,16 +115,16 @@ module _ (d : Diagram) (oldN oldE : List ℕ) (count : ℕ) (given : Given) (lay
 
   -- local bounds, in a mode of the run
   module _ (squashed relaxed : Bool) (us : List ℕ) (s : squashed ≡ wasSquashed (lastOf last)) (b : BoundsComputed layers squashed relaxed ns es us) where
-    pub bounds-done : (m : Mode) → relaxed ≡ isRelaxing m → Rewritten sits-of (localBounds m d (d .nodes)) us
+    bounds-done : (m : Mode) → relaxed ≡ isRelaxing m → Rewritten sits-of (localBounds m d (d .nodes)) us
     bounds-done m q = b .does (countsOf d) sits-of m ranged (st .layers-are) (s ∙ ap wasSquashed (st .last-is)) q
 
-    pub after-bounds : (m : Mode) → relaxed ≡ isRelaxing m → Bounded (wanted given 0) layers last (bounded m d) oldN oldE count us es rs
+    after-bounds : (m : Mode) → relaxed ≡ isRelaxing m → Bounded (wanted given 0) layers last (bounded m d) oldN oldE count us es rs
     after-bounds m q = bounded-stands m us (bounds-done m q)
 
     cut-asked : (best : Best) → Within 0 count best → Cuttable count best given layers last us es rs
     cut-asked best i =
         record {
-          drainable = record { diagram = bounded (modeFor relaxed) d; oldN = oldN; oldE = oldE; bounded = after-bounds (modeFor relaxed) (mode-for relaxed); from-start = refl; sized = st .sized; layers-in = st .few-layers };
+          drainable = record { diagram = bounded (modeFor relaxed) d; oldN = oldN; oldE = oldE; bounded = after-bounds (modeFor relaxed) (mode-for relaxed); sized = st .sized; layers-in = st .few-layers };
           inside = i;
         }
 

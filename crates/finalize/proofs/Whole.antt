@@ -1,7 +1,7 @@
 -- The whole of finalisation: verdict, rows and answer are those of the finished run.
 use mathlib.Core.Path.{_≡_, refl, sym, ap, subst, _∙_}
 use mathlib.Core.Bool.{Bool}
-use mathlib.Core.List.{List, []}
+use mathlib.Core.List.{List}
 use Prim.Native.Nat.{ℕ, _<_, _≤_}
 use native.Mathlib.Omega.{arith}
 use lib.ListN.{length}
@@ -28,7 +28,6 @@ use Rattle.finish.proofs.Depths.{deep-dressed, path-room}
 use Rattle.finish.proofs.Rewriting.{nodes-within, edges-within}
 use Rattle.cutset.specs.declared.Kind.{Kind}
 use Rattle.cutset.specs.declared.Drained.{Drained}
-use Rattle.cutset.specs.declared.Drained.the-variants.{Records}
 use Rattle.cutset.specs.Whole.{kindOf}
 use Rattle.finish.proofs.Terminals.{within-wider}
 use Rattle.finalize.specs.declared.Given.{Given}
@@ -37,9 +36,8 @@ use Rattle.finalize.specs.declared.Finished.{Finished}
 use Rattle.finalize.specs.Given.{Grown, Finalizable}
 use Rattle.finalize.specs.Judged.{Judgeable, Judgement, Judges}
 use Rattle.finalize.specs.Standing.{pathBefore, Standing, Standable, RowsOf, RowsFinished}
-use Rattle.finalize.specs.Counting.{RowsCountable, CountOf, RowsCounted}
 use Rattle.finalize.specs.Answers.{Roomy, Walkable, Answerable, AnswerOf, Answered}
-use Rattle.finalize.specs.Ended.{valueFrom, Tells, Ends, Finalized, EndsCounted, Counted}
+use Rattle.finalize.specs.Ended.{valueFrom, Tells, Ends, Finalized}
 use Rattle.finalize.proofs.Outcomes.{outcome-dressed, outcome-wired}
 use Rattle.finalize.proofs.Standing.{modeFor, mode-for, sits-of}
 use Rattle.finalize.proofs.Grown.{stands}
@@ -119,7 +117,7 @@ module _ (k : Counts) (start : ℕ) (layers : Layers) (last : Last) (given : Giv
         inside = within-wider start (k .nodes) 0 (k .nodes) (j .best) (omega arith) (omega arith) (h .best-in);
       }
 
-  module _ (relaxed : Bool) (kind : Kind) (j : Judged) (ns′ : List ℕ) (h : Judges start (k .nodes) last relaxed ns es j) where
+  module _ (relaxed : Bool) (kind : Kind) (j : Judged) (r : Drained) (ns′ rs′ : List ℕ) (h : Judges start (k .nodes) last relaxed ns es j) (f : RowsFinished (k .nodes) (j .best) given layers kind last relaxed ns es rs r ns′ rs′) where
     -- in a mode of the run, and over the diagram that the tables hold
     module _ (s : Settings) (items : List Item) (c : Record) (d : Diagram) (oldN oldE : List ℕ) (g : Grown s items c d oldN oldE k start layers last given ns es rs) (m : Mode) (q : relaxed ≡ isRelaxing m) where
       standing : Standing d oldN oldE (k .nodes) given layers last ns es rs
@@ -128,61 +126,43 @@ module _ (k : Counts) (start : ℕ) (layers : Layers) (last : Last) (given : Giv
       verdict : Judgement m d j
       verdict = h .does (countsOf d) (sits-of d oldN oldE (k .nodes) given layers last ns es rs standing) m (g .start-is) (standing .count-is) (g .last-is) q
 
-      best-within : Within 0 (k .nodes) (j .best)
-      best-within = within-wider start (k .nodes) 0 (k .nodes) (j .best) (omega arith) (omega arith) (h .best-in)
+      rows-of : RowsOf (outcome m (kindOf kind) d) (pathBefore given) (given .room) oldN rs r ns′ rs′
+      rows-of = f .does d oldN oldE m standing q (verdict .best-is)
 
-      -- once the rows of the finished run are in the node table
-      module _ (rows : ns′ ≡ over (nodeTable (outcome m (kindOf kind) d .diagram .nodes)) oldN) where
-        both-walkable : Answerable j given ns′ es
-        both-walkable =
-            record {
-              best = walkable d oldN oldE (k .nodes) given layers last ns es rs standing m kind ns′ rows start (j .best) (h .best-in);
-              best-exact = walkable d oldN oldE (k .nodes) given layers last ns es rs standing m kind ns′ rows start (j .«best_exact») (h .best-exact-in);
-            }
+      both-walkable : Answerable j given ns′ es
+      both-walkable =
+          record {
+            best = walkable d oldN oldE (k .nodes) given layers last ns es rs standing m kind ns′ (rows-of .nodes-are) start (j .best) (h .best-in);
+            best-exact = walkable d oldN oldE (k .nodes) given layers last ns es rs standing m kind ns′ (rows-of .nodes-are) start (j .«best_exact») (h .best-exact-in);
+          }
 
-        read-off : (r : Drained) (a : Finished) → Answered j given r ns′ es a → AnswerOf (outcome m (kindOf kind) d .diagram) j given r a
-        read-off r a t =
-            t .does (countsOf (outcome m (kindOf kind) d .diagram)) (finished-sits d oldN oldE (k .nodes) given layers last ns es rs standing m kind ns′ rows)
-            (still-in d oldN oldE (k .nodes) given layers last ns es rs standing m kind ns′ rows start (j .best) (h .best-in))
-            (still-in d oldN oldE (k .nodes) given layers last ns es rs standing m kind ns′ rows start (j .«best_exact») (h .best-exact-in))
+      module _ (a : Finished) (t : Answered j given r ns′ es a) where
+        read-off : AnswerOf (outcome m (kindOf kind) d .diagram) j given r a
+        read-off =
+            t .does (countsOf (outcome m (kindOf kind) d .diagram)) (finished-sits d oldN oldE (k .nodes) given layers last ns es rs standing m kind ns′ (rows-of .nodes-are))
+            (still-in d oldN oldE (k .nodes) given layers last ns es rs standing m kind ns′ (rows-of .nodes-are) start (j .best) (h .best-in))
+            (still-in d oldN oldE (k .nodes) given layers last ns es rs standing m kind ns′ (rows-of .nodes-are) start (j .«best_exact») (h .best-exact-in))
 
-        tells : (r : Drained) (a : Finished) → Answered j given r ns′ es a → Tells (outcome m (kindOf kind) d) (pathBefore given) a
-        tells r a t =
-            let y = read-off r a t in
+        tells : Tells (outcome m (kindOf kind) d) (pathBefore given) a
+        tells =
             let i = outcome-is m (kindOf kind) d in
             let b : rowOf (j .best) ≡ outcome m (kindOf kind) d .best = verdict .best-is ∙ sym (i .1 .0) in
             let e : rowOf (j .«best_exact») ≡ outcome m (kindOf kind) d .bestExact = verdict .best-exact-is ∙ sym (i .1 .1 .0) in
             let o = outcome m (kindOf kind) d .diagram in
             record {
-              exact-is = y .exact-is ∙ verdict .exact-is ∙ sym (i .0);
-              best-is = y .best-is ∙ ap (λ (p : Found). valueFrom (valueOf o p)) b;
-              path-is = y .path-is ∙ ap (pathOf (pathBefore given) o) b;
-              best-exact-is = y .best-exact-is ∙ ap (λ (p : Found). valueFrom (valueOf o p)) e;
-              exact-path-is = y .exact-path-is ∙ ap (pathOf (pathBefore given) o) e;
+              exact-is = read-off .exact-is ∙ verdict .exact-is ∙ sym (i .0);
+              best-is = read-off .best-is ∙ ap (λ (p : Found). valueFrom (valueOf o p)) b;
+              path-is = read-off .path-is ∙ ap (pathOf (pathBefore given) o) b;
+              best-exact-is = read-off .best-exact-is ∙ ap (λ (p : Found). valueFrom (valueOf o p)) e;
+              exact-path-is = read-off .exact-path-is ∙ ap (pathOf (pathBefore given) o) e;
             }
 
-  -- ---- its records drained into a list
-
-  module _ (relaxed : Bool) (kind : Kind) (j : Judged) (r : Drained) (ns′ rs′ : List ℕ) (h : Judges start (k .nodes) last relaxed ns es j) (f : RowsFinished (k .nodes) (j .best) given layers kind last relaxed ns es rs r ns′ rs′) where
-    module _ (s : Settings) (items : List Item) (c : Record) (d : Diagram) (oldN oldE : List ℕ) (g : Grown s items c d oldN oldE k start layers last given ns es rs) (m : Mode) (q : relaxed ≡ isRelaxing m) where
-      rows-of : RowsOf (outcome m (kindOf kind) d) (pathBefore given) (given .room) oldN rs r ns′ rs′
-      rows-of =
-          f .does d oldN oldE m (standing relaxed kind j ns′ h s items c d oldN oldE g m q) q (verdict relaxed kind j ns′ h s items c d oldN oldE g m q .best-is)
-
-      ended : (a : Finished) → Answered j given r ns′ es a → Ends (outcome m (kindOf kind) d) (pathBefore given) (given .room) oldN rs a ns′ rs′
-      ended a t =
-          let x = rows-of in
-          record {
-            told = tells relaxed kind j ns′ h s items c d oldN oldE g m q (x .nodes-are) r a t;
-            drained-is = read-off relaxed kind j ns′ h s items c d oldN oldE g m q (x .nodes-are) r a t .drained-is ∙ x .answer-is;
-            nodes-are = x .nodes-are;
-            records-are = x .records-are;
-          }
+        ended : Ends (outcome m (kindOf kind) d) (pathBefore given) (given .room) oldN rs a ns′ rs′
+        ended = record { told = tells; drained-is = read-off .drained-is ∙ rows-of .answer-is; nodes-are = rows-of .nodes-are; records-are = rows-of .records-are }
 
     pub answers-asked : Finalizable k start layers last given ns es rs → Answerable j given ns′ es
     answers-asked x =
-        both-walkable relaxed kind j ns′ h (x .settings) (x .items) (x .compiled) (x .diagram) (x .oldN) (x .oldE) (x .grown) (modeFor relaxed) (mode-for relaxed)
-        (rows-of (x .settings) (x .items) (x .compiled) (x .diagram) (x .oldN) (x .oldE) (x .grown) (modeFor relaxed) (mode-for relaxed) .nodes-are)
+        both-walkable (x .settings) (x .items) (x .compiled) (x .diagram) (x .oldN) (x .oldE) (x .grown) (modeFor relaxed) (mode-for relaxed)
 
     pub finalized : (a : Finished) → Answered j given r ns′ es a → Finalized k start layers last relaxed kind given ns es rs a ns′ rs′
     finalized a t =
@@ -190,40 +170,4 @@ module _ (k : Counts) (start : ℕ) (layers : Layers) (last : Last) (given : Giv
           does = λ s items c d oldN oldE g q.
               subst (λ (p : List ℕ). Ends (outcome (s .mode) (kindOf kind) d) p (given .room) oldN rs a ns′ rs′) (g .path-is)
               (ended s items c d oldN oldE g (s .mode) q a t);
-        }
-
--- ---- its records counted
-
-module _ (k : Counts) (start : ℕ) (layers : Layers) (last : Last) (given : Given) (ns es : List ℕ) where
-  pub count-asked : (relaxed : Bool) (j : Judged) → Finalizable k start layers last given ns es [] → Judges start (k .nodes) last relaxed ns es j → RowsCountable (j .best) given layers last ns es
-  count-asked relaxed j x h = record { count = k .nodes; standable = rows-asked k start layers last given ns es [] relaxed j x h }
-
-  module _ (relaxed : Bool) (kind : Kind) (j : Judged) (n : ℕ) (ns′ : List ℕ) (h : Judges start (k .nodes) last relaxed ns es j) (f : RowsCounted (j .best) given layers kind last relaxed ns es n ns′) where
-    module _ (s : Settings) (items : List Item) (c : Record) (d : Diagram) (oldN oldE : List ℕ) (g : Grown s items c d oldN oldE k start layers last given ns es []) (m : Mode) (q : relaxed ≡ isRelaxing m) where
-      count-of : CountOf (outcome m (kindOf kind) d) (pathBefore given) oldN n ns′
-      count-of =
-          f .does (k .nodes) d oldN oldE m (standing k start layers last given ns es [] relaxed kind j ns′ h s items c d oldN oldE g m q)
-          (best-within k start layers last given ns es [] relaxed kind j ns′ h s items c d oldN oldE g m q) q
-          (verdict k start layers last given ns es [] relaxed kind j ns′ h s items c d oldN oldE g m q .best-is)
-
-      ended-counted : (a : Finished) → Answered j given (Records n) ns′ es a → EndsCounted (outcome m (kindOf kind) d) (pathBefore given) oldN a ns′
-      ended-counted a t =
-          let x = count-of in
-          record {
-            told = tells k start layers last given ns es [] relaxed kind j ns′ h s items c d oldN oldE g m q (x .nodes-are) (Records n) a t;
-            drained-is = read-off k start layers last given ns es [] relaxed kind j ns′ h s items c d oldN oldE g m q (x .nodes-are) (Records n) a t .drained-is ∙ ap Records (x .count-is);
-            nodes-are = x .nodes-are;
-          }
-
-    pub count-answers-asked : Finalizable k start layers last given ns es [] → Answerable j given ns′ es
-    count-answers-asked x =
-        both-walkable k start layers last given ns es [] relaxed kind j ns′ h (x .settings) (x .items) (x .compiled) (x .diagram) (x .oldN) (x .oldE) (x .grown) (modeFor relaxed) (mode-for relaxed)
-        (count-of (x .settings) (x .items) (x .compiled) (x .diagram) (x .oldN) (x .oldE) (x .grown) (modeFor relaxed) (mode-for relaxed) .nodes-are)
-
-    pub counted : (a : Finished) → Answered j given (Records n) ns′ es a → Counted k start layers last relaxed kind given ns es a ns′
-    counted a t =
-        record {
-          does = λ s items c d oldN oldE g q.
-              subst (λ (p : List ℕ). EndsCounted (outcome (s .mode) (kindOf kind) d) p oldN a ns′) (g .path-is)
-              (ended-counted s items c d oldN oldE g (s .mode) q a t);
         }

@@ -1,10 +1,9 @@
 -- What `finalize` answers and leaves in the tables: a finished run's outcome, in the words of compile's definition.
 use mathlib.Core.Path.{_≡_}
 use mathlib.Core.Bool.{Bool}
-use mathlib.Core.List.{List, []}
+use mathlib.Core.List.{List}
 use mathlib.Core.Option.{Option, none, some}
 use Prim.Native.Nat.{ℕ}
-use lib.ListN.{length}
 use lib.IntN.{ℤ}
 use Rattle.knapsack.specs.Items.{Item}
 use Rattle.diagram.specs.Record.{Record}
@@ -19,7 +18,6 @@ use Rattle.branch.specs.declared.Counts.{Counts}
 use Rattle.layers.specs.declared.Layers.{Layers}
 use Rattle.layers.specs.declared.Last.{Last}
 use Rattle.cutset.specs.declared.Kind.{Kind}
-use Rattle.cutset.specs.declared.Drained.the-variants.{Records}
 use Rattle.cutset.specs.Whole.{kindOf, answer, fitting}
 use Rattle.finalize.specs.declared.Value.{Value}
 use Rattle.finalize.specs.declared.Value.the-variants.{Is, Missing}
@@ -49,12 +47,3 @@ pub record Ends (o : Outcome) (path : List ℕ) (room : ℕ) (oldN rs : List ℕ
 
 pub record Finalized (k : Counts) (start : ℕ) (layers : Layers) (last : Last) (relaxed : Bool) (kind : Kind) (given : Given) (ns es rs : List ℕ) (f : Finished) (ns′ rs′ : List ℕ) : Type 0 where
   pub does : (s : Settings) (items : List Item) (r : Record) (d : Diagram) (oldN oldE : List ℕ) → Grown s items r d oldN oldE k start layers last given ns es rs → relaxed ≡ isRelaxing (s .mode) → Ends (outcome (s .mode) (kindOf kind) d) (r .path) (given .room) oldN rs f ns′ rs′
-
--- outcome o where its records are counted, all of them, and none is written
-pub record EndsCounted (o : Outcome) (path oldN : List ℕ) (f : Finished) (ns′ : List ℕ) : Type 0 where
-  pub told : Tells o path f
-  pub drained-is : f .drained ≡ Records (length (drained path o))
-  pub nodes-are : ns′ ≡ over (nodeTable (o .diagram .nodes)) oldN
-
-pub record Counted (k : Counts) (start : ℕ) (layers : Layers) (last : Last) (relaxed : Bool) (kind : Kind) (given : Given) (ns es : List ℕ) (f : Finished) (ns′ : List ℕ) : Type 0 where
-  pub does : (s : Settings) (items : List Item) (r : Record) (d : Diagram) (oldN oldE : List ℕ) → Grown s items r d oldN oldE k start layers last given ns es [] → relaxed ≡ isRelaxing (s .mode) → EndsCounted (outcome (s .mode) (kindOf kind) d) (r .path) oldN f ns′

@@ -3,5 +3,4 @@ pub mod Given
 pub mod Ended
 pub mod Judged
 pub mod Standing
-pub mod Counting
 pub mod Answers

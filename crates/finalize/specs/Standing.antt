@@ -36,7 +36,7 @@ pathBefore given = take (given .depth) (given .path)
 
 -- what a traversal of the cutset is asked, with that best value
 abbrev pub wanted : Given → ℕ → Wanted
-wanted given best = record { first = 0; room = given .room; best = best; path = given .path; depth = given .depth }
+wanted given best = record { room = given .room; best = best; path = given .path; depth = given .depth }
 
 -- ---- the cutset
 

@@ -1,20 +1,16 @@
 // `_finalize` of clean.rs: a grown diagram's best node and best exact node, exactness, local bounds, cutset and drained records, with the values and paths that are answered.
 ghost use mathlib.Core.Path.{_≡_};
-ghost use mathlib.Core.List.{[]};
 ghost use Prim.Native.Nat.{_*_, _≤_};
 ghost use lib.ListN.{length};
 ghost use Rattle.layout.specs.Rows.{nodeWords};
-ghost use Rattle.layers.specs.Stored.{Sized, lastOf};
-ghost use Rattle.cutset.specs.Trace.{Tracing, Traced};
-ghost use Rattle.cutset.specs.Whole.{kindOf, counting, Shaped, cutsetFrom};
+ghost use Rattle.layers.specs.Stored.{lastOf};
 ghost use Rattle.finish.specs.Bounds.{wasSquashed};
 ghost use Rattle.finish.specs.Terminals.{Readable};
 ghost use Rattle.finalize.specs.Given.{Finalizable};
 ghost use Rattle.finalize.specs.Judged.{BestExactFound, Judgeable, Judges};
 ghost use Rattle.finalize.specs.Standing.{Cuttable, CutsetDone, Standable, RowsFinished};
 ghost use Rattle.finalize.specs.Answers.{ValueTold, Walkable, PathTold, Answerable, Answered};
-ghost use Rattle.finalize.specs.Counting.{CutCountable, CutsetCounted, RowsCountable, RowsCounted};
-ghost use Rattle.finalize.specs.Ended.{Finalized, Counted};
+ghost use Rattle.finalize.specs.Ended.{Finalized};
 use branch::Counts;
 use cutset::Drained;
 use cutset::Kind;
@@ -120,7 +116,6 @@ fn finalize_cutset(
     let path = given.path;
     let Best::Node(b) = best else {
         let w = Wanted {
-            first: 0,
             room: 0,
             best: 0,
             path: path,
@@ -131,7 +126,6 @@ fn finalize_cutset(
     };
     let value = rows::read_value(nodes, b);
     let w = Wanted {
-        first: 0,
         room: given.room,
         best: value,
         path: path,
@@ -172,82 +166,6 @@ fn finish_rows(
         last,
         relaxed,
     )
-}
-
-// The cutset flagged and its records counted. The list that is lent for it has no place for a record, and stays as it is.
-fn count_flagged(
-    nodes: &mut [u64],
-    edges: &[u64],
-    w: Wanted,
-    layers: Layers,
-    kind: Kind,
-    last: Last,
-) -> usize
-    requires { ⌜ Tracing (Shaped layers last) (counting w) 0 (now nodes) (now edges) [] × (Sized layers × (layers .count ≤ 65)) ⌝ }
-    ensures { λ n.
-        ⌜ Traced (Shaped layers last) (cutsetFrom (kindOf kind)) (counting w) 0 (now (nodes .entry)) (now (edges .entry)) [] n (now (nodes .exit)) [] ⌝ }
-{
-    let mut none = [0u64; 1];
-    cutset::flag_cutset(nodes, edges, &mut none, w, layers, kind, last)
-}
-
-// As `finalize_cutset`, but the drained records are counted alone.
-fn count_cutset(
-    nodes: &mut [u64],
-    edges: &[u64],
-    best: Best,
-    given: Given,
-    layers: Layers,
-    kind: Kind,
-    last: Last,
-    relaxed: bool,
-) -> usize
-    requires { ⌜ CutCountable best given layers last (now nodes) (now edges) ⌝ }
-    ensures { λ n. ⌜ CutsetCounted best given layers kind last relaxed (now (nodes .entry)) (now (edges .entry)) n (now (nodes .exit)) ⌝ }
-{
-    if !relaxed {
-        return 0;
-    }
-    let path = given.path;
-    let Best::Node(b) = best else {
-        let w = Wanted {
-            first: 0,
-            room: 0,
-            best: 0,
-            path: path,
-            depth: given.depth,
-        };
-        count_flagged(nodes, edges, w, layers, kind, last);
-        return 0;
-    };
-    let best_value = rows::read_value(nodes, b);
-    let w = Wanted {
-        first: 0,
-        room: 0,
-        best: best_value,
-        path: path,
-        depth: given.depth,
-    };
-    count_flagged(nodes, edges, w, layers, kind, last)
-}
-
-// As `finish_rows`, but the drained records are counted alone.
-fn count_rows(
-    nodes: &mut [u64],
-    edges: &[u64],
-    best: Best,
-    given: Given,
-    layers: Layers,
-    kind: Kind,
-    last: Last,
-    relaxed: bool,
-) -> usize
-    requires { ⌜ RowsCountable best given layers last (now nodes) (now edges) ⌝ }
-    ensures { λ n. ⌜ RowsCounted best given layers kind last relaxed (now (nodes .entry)) (now (edges .entry)) n (now (nodes .exit)) ⌝ }
-{
-    let was = was_squashed(last);
-    finish::compute_local_bounds(nodes, edges, layers, was, relaxed);
-    count_cutset(nodes, edges, best, given, layers, kind, last, relaxed)
 }
 
 // The value that is answered for a best node.
@@ -326,25 +244,4 @@ pub fn finalize(
         relaxed,
     );
     answers(nodes, edges, judged, given, drained)
-}
-
-// Everything after the last layer, for a caller that fetches the records later: they are counted, and none is written.
-pub fn finalize_counted(
-    nodes: &mut [u64],
-    edges: &[u64],
-    k: Counts,
-    start: usize,
-    layers: Layers,
-    last: Last,
-    relaxed: bool,
-    kind: Kind,
-    given: Given,
-) -> Finished
-    requires { ⌜ Finalizable k start layers last given (now nodes) (now edges) [] ⌝ }
-    ensures { λ f. ⌜ Counted k start layers last relaxed kind given (now (nodes .entry)) (now (edges .entry)) f (now (nodes .exit)) ⌝ }
-{
-    let judged = judge(nodes, edges, start, k.nodes, last, relaxed);
-    let best = judged.best;
-    let found = count_rows(nodes, edges, best, given, layers, kind, last, relaxed);
-    answers(nodes, edges, judged, given, Drained::Records(found))
 }

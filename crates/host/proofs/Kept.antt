@@ -3,15 +3,16 @@ use mathlib.Core.Path.{_≡_, refl, sym, ap, subst, _∙_}
 use mathlib.Core.List.{List}
 use Prim.Native.Nat.{ℕ}
 use lib.IntN.{ℤ}
+use Rattle.calls.specs.Compile as Compile
 use Rattle.searches.specs.Places.{Place}
-use Rattle.searches.specs.Compile as Compile
 use Rattle.searches.specs.Start as Start
 use Rattle.searches.specs.Pick as Pick
 use Rattle.refusals.specs.declared.Verdict.{Verdict}
 use Rattle.refusals.specs.declared.Verdict.the-variants.{Accepted, Refused}
 use Rattle.compile.specs.declared.Answer.{Answer}
-use Rattle.compile_records.specs.declared.Query.{Query}
-use Rattle.compile_records.specs.Queried.{askedBy, Compiles}
+use Rattle.compile.specs.Answered.{Answers}
+use Rattle.query.specs.declared.Query.{Query}
+use Rattle.query.specs.Queried.{askedBy}
 use Rattle.search.specs.declared.Ask.{Ask}
 use Rattle.search.specs.declared.Search.{Search}
 use Rattle.search.specs.declared.Started.{Started}
@@ -19,7 +20,8 @@ use Rattle.search.specs.declared.Picked.{Picked}
 use Rattle.search.specs.Held.{searchOf}
 use Rattle.search.specs.Asked.{problemOf}
 use Rattle.search.specs.Begins.{Begins}
-use Rattle.pick.specs.Picks.{askedIn, Picks}
+use Rattle.pick_steps.specs.Tried.{askedIn}
+use Rattle.pick.specs.Picks.{Picks}
 use Rattle.jobs.specs.Run.{Ending, refused, run}
 use Rattle.jobs.specs.Left.{Left}
 use Rattle.jobs.specs.Page.{answerOf}
@@ -38,7 +40,7 @@ use Rattle.border.specs.declared.Page.{Page}
 use Rattle.border.specs.Border.{numberOf, askIn, queryIn, searchIn, foundOf, hostSearchAfter, endingNumber, shownOf, outputIn}
 use Rattle.host.specs.Promises.{CompilesFor, StartsFor, PicksFor, Shows, RunsFor}
 
-module _ (d : Compile.After) (a : Answer) (ns es : List ℕ) (rs : List Place) (h : Compiles d a ns es rs) (found : Found) (found-is : found ≡ foundOf a) (n : ℕ) (n-is : n ≡ numberOf (a .verdict)) where
+module _ (d : Compile.After) (a : Answer) (ns es rs : List ℕ) (h : Answers d a ns es rs) (found : Found) (found-is : found ≡ foundOf a) (n : ℕ) (n-is : n ≡ numberOf (a .verdict)) where
   compiled : CompilesFor d n found ns es rs
   compiled =
       record {
@@ -58,7 +60,7 @@ module _ (d : Start.After) (old : HostSearch) (a : Started) (rs : List Place) (h
         list-is = h .written;
       }
 
-module _ (d : Pick.After) (old : HostSearch) (p : Picked) (ns es : List ℕ) (rs xs : List Place) (h : Picks d p ns es rs xs) (s : HostSearch) (s-is : s ≡ hostSearchAfter (p .verdict) (p .search) old) (n : ℕ) (n-is : n ≡ numberOf (p .verdict)) where
+module _ (d : Pick.After) (old : HostSearch) (p : Picked) (ns es : List ℕ) (rs : List Place) (xs : List ℕ) (h : Picks d p ns es rs xs) (s : HostSearch) (s-is : s ≡ hostSearchAfter (p .verdict) (p .search) old) (n : ℕ) (n-is : n ≡ numberOf (p .verdict)) where
   picked : PicksFor d n old s ns es rs xs
   picked =
       record {
@@ -72,7 +74,7 @@ module _ (d : Pick.After) (old : HostSearch) (p : Picked) (ns es : List ℕ) (rs
 
 -- ---- what was asked came from the host's numbers
 
-pub compiles-for : (weights profits : List ℕ) (question : Question) (lent : Compile.Lent) (q : Query) → q ≡ queryIn question → (a : Answer) (ns es : List ℕ) (rs : List Place) → Compiles (Compile.compile (askedBy weights profits q) lent) a ns es rs
+pub compiles-for : (weights profits : List ℕ) (question : Question) (lent : Compile.Lent) (q : Query) → q ≡ queryIn question → (a : Answer) (ns es rs : List ℕ) → Answers (Compile.compile (askedBy weights profits q) lent) a ns es rs
     → (found : Found) → found ≡ foundOf a → (n : ℕ) → n ≡ numberOf (a .verdict) → CompilesFor (Compile.compile (askedBy weights profits (queryIn question)) lent) n found ns es rs
 compiles-for weights profits question lent q e a ns es rs h found f n k =
     subst (λ (x : Query). CompilesFor (Compile.compile (askedBy weights profits x) lent) n found ns es rs) e (compiled (Compile.compile (askedBy weights profits q) lent) a ns es rs h found f n k)
@@ -83,7 +85,7 @@ starts-for weights profits terms bound list old ask e a rs h s f n k =
     subst (λ (x : Ask). StartsFor (Start.start (problemOf weights profits (x .page) (x .width)) bound list) n old s rs) e
     (started (Start.start (problemOf weights profits (ask .page) (ask .width)) bound list) old a rs h s f n k)
 
-pub picks-for : (weights profits : List ℕ) (terms : Terms) (place : ℕ) (old : HostSearch) (held : Pick.Held) (ask : Ask) (before : Search) → ask ≡ askIn terms → before ≡ searchIn old → (p : Picked) (ns es : List ℕ) (rs xs : List Place) → Picks (Pick.pick (askedIn weights profits ask place) (searchOf before) held) p ns es rs xs
+pub picks-for : (weights profits : List ℕ) (terms : Terms) (place : ℕ) (old : HostSearch) (held : Pick.Held) (ask : Ask) (before : Search) → ask ≡ askIn terms → before ≡ searchIn old → (p : Picked) (ns es : List ℕ) (rs : List Place) (xs : List ℕ) → Picks (Pick.pick (askedIn weights profits ask place) (searchOf before) held) p ns es rs xs
     → (s : HostSearch) → s ≡ hostSearchAfter (p .verdict) (p .search) old → (n : ℕ) → n ≡ numberOf (p .verdict) → PicksFor (Pick.pick (askedIn weights profits (askIn terms) place) (searchOf (searchIn old)) held) n old s ns es rs xs
 picks-for weights profits terms place old held ask before e b p ns es rs xs h s f n k =
     subst (λ (x : Ask). PicksFor (Pick.pick (askedIn weights profits x place) (searchOf (searchIn old)) held) n old s ns es rs xs) e

@@ -3,8 +3,8 @@ use mathlib.Core.Path.{_≡_}
 use mathlib.Core.List.{List}
 use Prim.Native.Nat.{ℕ}
 use lib.ListN.{length}
+use Rattle.calls.specs.Compile as Compile
 use Rattle.searches.specs.Places.{Place}
-use Rattle.searches.specs.Compile as Compile
 use Rattle.searches.specs.Start as Start
 use Rattle.searches.specs.Pick as Pick
 use Rattle.compile.specs.Answered.{answerFrom}
@@ -19,7 +19,7 @@ use Rattle.border.specs.declared.HostSearch.{HostSearch}
 use Rattle.border.specs.declared.Page.{Page}
 use Rattle.border.specs.Border.{numberOf, foundOf, hostSearchAfter, endingNumber, outputIn}
 
-pub record CompilesFor (d : Compile.After) (n : ℕ) (found : Found) (ns es : List ℕ) (records : List Place) : Type 0 where
+pub record CompilesFor (d : Compile.After) (n : ℕ) (found : Found) (ns es records : List ℕ) : Type 0 where
   pub number-is : n ≡ numberOf (answerFrom (d .answer) .verdict)
   pub found-is : found ≡ foundOf (answerFrom (d .answer))
   pub nodes-are : ns ≡ d .lent .nodes
@@ -32,7 +32,7 @@ pub record StartsFor (d : Start.After) (n : ℕ) (old s : HostSearch) (list : Li
   pub search-is : s ≡ hostSearchAfter (startedFrom (d .answer) .verdict) (startedFrom (d .answer) .search) old
   pub list-is : list ≡ d .list
 
-pub record PicksFor (d : Pick.After) (n : ℕ) (old s : HostSearch) (ns es : List ℕ) (list scratch : List Place) : Type 0 where
+pub record PicksFor (d : Pick.After) (n : ℕ) (old s : HostSearch) (ns es : List ℕ) (list : List Place) (scratch : List ℕ) : Type 0 where
   pub number-is : n ≡ numberOf (pickedFrom (d .answer) (d .search) .verdict)
   pub search-is : s ≡ hostSearchAfter (pickedFrom (d .answer) (d .search) .verdict) (pickedFrom (d .answer) (d .search) .search) old
   pub nodes-are : ns ≡ d .held .lent .nodes

@@ -1,11 +1,12 @@
 // The library for C and Rust hosts: compile, start, pick and a job's run under C names, over lent slices and structs of plain numbers.
 ghost use Rattle.records.specs.Structs.{places};
-ghost use Rattle.searches.specs.Compile.{compile};
+ghost use Rattle.calls.specs.Compile.{compile};
 ghost use Rattle.searches.specs.Start.{start};
 ghost use Rattle.searches.specs.Pick.{pick};
 ghost use Rattle.search.specs.Asked.{problemOf};
-ghost use Rattle.compile_records.specs.Queried.{askedBy, lentOf};
-ghost use Rattle.pick.specs.Picks.{askedIn, heldIn};
+ghost use Rattle.compile.specs.Asked.{lentOf};
+ghost use Rattle.query.specs.Queried.{askedBy};
+ghost use Rattle.pick_steps.specs.Tried.{askedIn, heldIn};
 ghost use Rattle.search.specs.Held.{searchOf};
 ghost use Rattle.border.specs.Border.{askIn, queryIn, searchIn};
 ghost use Rattle.host.specs.Promises.{CompilesFor, StartsFor, PicksFor, RunsFor};
@@ -16,24 +17,24 @@ use border::Question;
 use border::Terms;
 use records::Record;
 
-// Compiles a record: `found` is written, accepted or refused.
+// Compiles a record: `found` is written, accepted or refused. The list of drained records is words, as the tables are.
 #[no_mangle]
 pub extern "C" fn jambtulip_compile(
     weights: &[u64],
     profits: &[u64],
     nodes: &mut [u64],
     edges: &mut [u64],
-    records: &mut [Record],
+    records: &mut [u64],
     question: Question,
     found: &mut Found,
 ) -> u64
     ensures { λ n.
         ⌜ CompilesFor
-        (compile (askedBy (now (weights .entry)) (now (profits .entry)) (queryIn question)) (lentOf (now (nodes .entry)) (now (edges .entry)) (places (now (records .entry)))))
-        n (now (found .exit)) (now (nodes .exit)) (now (edges .exit)) (places (now (records .exit))) ⌝ }
+        (compile (askedBy (now (weights .entry)) (now (profits .entry)) (queryIn question)) (lentOf (now (nodes .entry)) (now (edges .entry)) (now (records .entry))))
+        n (now (found .exit)) (now (nodes .exit)) (now (edges .exit)) (now (records .exit)) ⌝ }
 {
     let q = border::query_in(question);
-    let a = compile_records::compile_into(weights, profits, nodes, edges, records, q);
+    let a = query::compile_record(weights, profits, nodes, edges, records, q);
     let f = border::found_of(a);
     *found = f;
     border::answer_number(a)
@@ -69,15 +70,15 @@ pub extern "C" fn jambtulip_pick(
     nodes: &mut [u64],
     edges: &mut [u64],
     list: &mut [Record],
-    scratch: &mut [Record],
+    scratch: &mut [u64],
     terms: Terms,
     place: usize,
     s: &mut HostSearch,
 ) -> u64
     ensures { λ n.
         ⌜ PicksFor
-        (pick (askedIn (now (weights .entry)) (now (profits .entry)) (askIn terms) place) (searchOf (searchIn (now (s .entry)))) (heldIn (places (now (list .entry))) (now (nodes .entry)) (now (edges .entry)) (places (now (scratch .entry)))))
-        n (now (s .entry)) (now (s .exit)) (now (nodes .exit)) (now (edges .exit)) (places (now (list .exit))) (places (now (scratch .exit))) ⌝ }
+        (pick (askedIn (now (weights .entry)) (now (profits .entry)) (askIn terms) place) (searchOf (searchIn (now (s .entry)))) (heldIn (places (now (list .entry))) (now (nodes .entry)) (now (edges .entry)) (now (scratch .entry))))
+        n (now (s .entry)) (now (s .exit)) (now (nodes .exit)) (now (edges .exit)) (places (now (list .exit))) (now (scratch .exit)) ⌝ }
 {
     let old = *s;
     let ask = border::ask_in(terms);
@@ -105,12 +106,12 @@ pub extern "C" fn jambtulip_run_job(
     nodes: &mut [u64],
     edges: &mut [u64],
     list: &mut [Record],
-    scratch: &mut [Record],
+    scratch: &mut [u64],
     page: &mut Page,
 ) -> u64
     ensures { λ n.
-        ⌜ RunsFor (now (text .entry)) (heldIn (places (now (list .entry))) (now (nodes .entry)) (now (edges .entry)) (places (now (scratch .entry)))) n
-        (now (page .exit)) (heldIn (places (now (list .exit))) (now (nodes .exit)) (now (edges .exit)) (places (now (scratch .exit)))) ⌝ }
+        ⌜ RunsFor (now (text .entry)) (heldIn (places (now (list .entry))) (now (nodes .entry)) (now (edges .entry)) (now (scratch .entry))) n
+        (now (page .exit)) (heldIn (places (now (list .exit))) (now (nodes .exit)) (now (edges .exit)) (now (scratch .exit))) ⌝ }
 {
     let read = job_text::read(text);
     let ended = job::run_if(read, nodes, edges, list, scratch);

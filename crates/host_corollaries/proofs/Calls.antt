@@ -16,7 +16,7 @@ use Rattle.searches.specs.Trace.{Blocks, problemAt}
 use Rattle.search.specs.declared.Search.{Search}
 use Rattle.search.specs.Held.{searchOf, searchFrom}
 use Rattle.search.specs.Answered.{startedFrom, pickedFrom}
-use Rattle.pick.specs.Picks.{askedIn, heldIn}
+use Rattle.pick_steps.specs.Tried.{askedIn, heldIn}
 use Rattle.demand3.proofs.Picks.{Went, early, halted, outgrown, dropped, grown, went}
 use Rattle.search_corollaries.specs.Calls as Calling
 use Rattle.search_corollaries.specs.Calls.{Calls}
@@ -68,10 +68,10 @@ calls-of {b} {bound} {most} (Hosting.begins width list list′ old s h) =
     (Calling.begins width list list′ (startedFrom (d .answer)) (begins-below d 0 old s (places list′) h) (ap (λ (x : Start.Started). startedFrom x .verdict) (t .1)))
 calls-of {b} {bound} {most} (Hosting.goes-on {old} {list} c terms place lent lent′ scratch scratch′ ns es ns′ es′ n s page same few h) =
     let q = askedIn (b .weights) (b .profits) (askIn terms) place in
-    let k = heldIn (places lent) ns es (places scratch) in
+    let k = heldIn (places lent) ns es scratch in
     let d = pick q (searchOf (searchIn old)) k in
     subst (λ (x : Search). Calls b bound most x lent′) (picked-search q old s k (d .answer) refl (h .search-is))
-    (Calling.goes-on (calls-of c) (askIn terms) place lent lent′ scratch scratch′ ns es ns′ es′ (pickedFrom (d .answer) (d .search)) page same few (picks-below d n old s ns′ es′ (places lent′) (places scratch′) h))
+    (Calling.goes-on (calls-of c) (askIn terms) place lent lent′ scratch scratch′ ns es ns′ es′ (pickedFrom (d .answer) (d .search)) page same few (picks-below d n old s ns′ es′ (places lent′) scratch′ h))
 
 -- ---- demand 3 for a host's calls
 

@@ -2,8 +2,8 @@
 use mathlib.Core.Path.{_≡_, refl, subst}
 use mathlib.Core.List.{List}
 use lib.ListN.{length}
+use Rattle.calls.specs.Compile.{Lent, roomsOf}
 use Rattle.searches.specs.Places.{Place}
-use Rattle.searches.specs.Compile.{Lent}
 use Rattle.searches.specs.Search.{Search}
 use Rattle.jobs.specs.Text.{Job}
 use Rattle.jobs.specs.Run.{Ending, ended, problemOf, run}
@@ -16,7 +16,7 @@ use Rattle.border.specs.Border.{outputIn}
 use Rattle.host_corollaries.specs.Job.{HostJobIsOptimal}
 use Rattle.host_corollaries.proofs.Numbers.{zero-is-answered}
 
-run-optimal : (j : Job) (l : Lent) (list : List Place) (s : Search) → run j l list ≡ ended s → Answered (problemOf j) (length (l .records)) s
+run-optimal : (j : Job) (l : Lent) (list : List Place) (s : Search) → run j l list ≡ ended s → Answered (problemOf j) (roomsOf l .records) s
 unfolding run
 run-optimal j l list s e = run-answers-the-optimum (problemOf j) (j .kind) l list s e
 

@@ -9,25 +9,22 @@ use lib.Dec.{eqb}
 use lib.IntN.{ℤ}
 use lib.ListN.{length}
 use Rattle.knapsack.proofs.Cases.{by-test}
-use Rattle.theorems.proofs.Fits.{Stop, ten, eleven, twelve}
 use Rattle.words.specs.I64.{i64Min}
 use Rattle.diagram.specs.After4.{CutsetKind}
 use Rattle.calls.specs.Asked.{Problem}
 use Rattle.calls.specs.Refusals.{Check, firstOf, problemChecks, recordChecks}
 use Rattle.calls.specs.Compile as Call
-use Rattle.calls.specs.Compile.{Request, Rooms, Compiled, refused, compiled}
-use Rattle.call_laws.proofs.Refusals.{run-stop, early-number}
+use Rattle.calls.specs.Compile.{Request, Lent, Compiled, refused, compiled, after, compile}
+use Rattle.call_laws.proofs.Refusals.{compile-numbers}
 use Rattle.compile.specs.Answered.{answerFrom}
 use Rattle.searches.specs.Places.{Place}
-use Rattle.searches.specs.Compile as Compile
-use Rattle.searches.specs.Compile.{Effect, effect, compileEffect, roomsOf, after}
 use Rattle.searches.specs.Search.{Search}
 use Rattle.searches.specs.Start as Start
 use Rattle.searches.specs.Start.{started, startRefusal, unless, start}
 use Rattle.searches.specs.Pick as Pick
 use Rattle.searches.specs.Pick.{refusedBy, accepted, pickCheck, pickRefusal, refusing, accepting, pick}
+use Rattle.searches.specs.Rows.{requestOf}
 use Rattle.search.specs.Answered.{startedFrom, pickedFrom}
-use Rattle.demand3.proofs.Compiled as Compiling
 use Rattle.demand3.proofs.Picks.{Went, early, halted, outgrown, dropped, grown, went}
 use Rattle.jobs.specs.Text.{Job}
 use Rattle.jobs.specs.Run as Run
@@ -51,30 +48,14 @@ first-numbered (c ∷ cs) h n e =
 
 -- ---- a refused compile
 
-stop-number : {n : ℕ} → Stop n → 1 ≤ n
-stop-number ten = omega arith
-stop-number eleven = omega arith
-stop-number twelve = omega arith
-
-effect-number : (q : Request) (m : Rooms) (n : ℕ) (x : Effect) → Compiling.Went q m x → x .answer ≡ refused n → 1 ≤ n
-unfolding effect
-effect-number q m n x (Compiling.early k e) r = let z : k ≡ n = cc in subst (λ (i : ℕ). 1 ≤ i) z (early-number q k e .0)
-effect-number q m n x (Compiling.halted k d e f) r = let z : k ≡ n = cc in subst (λ (i : ℕ). 1 ≤ i) z (stop-number (run-stop q m k d f))
-effect-number q m n x (Compiling.overfull o e f h) r = let z : 13 ≡ n = cc in omega (arith, z)
-effect-number q m n x (Compiling.done o e f h) r = let z : _≡_ {A = ℕ} 0 1 = cc in absurd (omega arith)
-
-compile-number : (q : Request) (l : Compile.Lent) (n : ℕ) → Compile.compile q l .answer ≡ refused n → 1 ≤ n
-unfolding Compile.compile after
-compile-number q l n e = effect-number q (roomsOf l) n (compileEffect q (roomsOf l)) (Compiling.went q (roomsOf l)) e
-
-module _ (q : Request) (l : Compile.Lent) (n : ℕ) where
-  zero-compiled : (x : Call.Answer) → Compile.compile q l .answer ≡ x → n ≡ numberOf (answerFrom x .verdict)
-      → (n ≡ 0 → (c : Compiled) × (Compile.compile q l .answer ≡ compiled c)) × ((c : Compiled) → Compile.compile q l .answer ≡ compiled c → n ≡ 0)
-  zero-compiled (refused k) e m = ((λ z. absurd (omega (arith, m, z, compile-number q l k e))), (λ c f. let z : _≡_ {A = ℕ} 0 1 = cc in absurd (omega arith)))
+module _ (q : Request) (l : Lent) (n : ℕ) where
+  zero-compiled : (x : Call.Answer) → compile q l .answer ≡ x → n ≡ numberOf (answerFrom x .verdict)
+      → (n ≡ 0 → (c : Compiled) × (compile q l .answer ≡ compiled c)) × ((c : Compiled) → compile q l .answer ≡ compiled c → n ≡ 0)
+  zero-compiled (refused k) e m = ((λ z. absurd (omega (arith, m, z, compile-numbers q l k e .0))), (λ c f. let z : _≡_ {A = ℕ} 0 1 = cc in absurd (omega arith)))
   zero-compiled (compiled c) e m = ((λ z. (c, e)), (λ c f. m))
 
 pub zero-is-compiled : ZeroIsCompiled
-zero-is-compiled q l n found ns es rs h = zero-compiled q l n (Compile.compile q l .answer) refl (h .number-is)
+zero-is-compiled q l n found ns es rs h = zero-compiled q l n (compile q l .answer) refl (h .number-is)
 
 -- ---- a refused start
 
@@ -98,9 +79,9 @@ zero-is-started p bound l n old s list h = zero-started p bound l n (start p bou
 -- ---- a refused pick
 
 went-number : (q : Pick.Asked) (t : Search) (h : Pick.Held) (n : ℕ) (r : Pick.After) → Went q t h r → r .answer ≡ refusedBy n → 1 ≤ n
-unfolding refusing accepting pickRefusal problemChecks recordChecks pickCheck
+unfolding refusing accepting pickRefusal problemChecks recordChecks pickCheck compile after
 went-number q t h n r (early k e) f = let z : k ≡ n = cc in subst (λ (i : ℕ). 1 ≤ i) z (first-numbered _ (omega arith) k e)
-went-number q t h n r (halted k y e) f = let z : k ≡ n = cc in subst (λ (i : ℕ). 1 ≤ i) z (effect-number _ _ k _ (Compiling.went _ _) e)
+went-number q t h n r (halted k y e) f = let z : k ≡ n = cc in subst (λ (i : ℕ). 1 ≤ i) z (compile-numbers (requestOf q t h) (h .lent) k e .0)
 went-number q t h n r (outgrown c y e o) f = let z : 13 ≡ n = cc in omega (arith, z)
 went-number q t h n r (dropped y low) f = let z : _≡_ {A = ℕ} 0 1 = cc in absurd (omega arith)
 went-number q t h n r (grown c y e l) f = let z : _≡_ {A = ℕ} 0 1 = cc in absurd (omega arith)
@@ -120,7 +101,7 @@ unfolding unlessRefused
 unless-number q t h e n others (refusedBy k) a f = let z : k ≡ n = cc in subst (λ (i : ℕ). 1 ≤ i) z (went-number q t h k (pick q t h) (went q t h) a)
 unless-number q t h e n others accepted a f = others f
 
-picking-number : (turns : ℕ) (p : Problem) (kind : CutsetKind) (l : Compile.Lent) (t : Search) (list : List Place) (n : ℕ) → picking turns p kind l t list ≡ Run.refused n → 1 ≤ n
+picking-number : (turns : ℕ) (p : Problem) (kind : CutsetKind) (l : Lent) (t : Search) (list : List Place) (n : ℕ) → picking turns p kind l t list ≡ Run.refused n → 1 ≤ n
 unfolding picking
 picking-number zero p kind l t list n e = let z : _≡_ {A = ℕ} 0 1 = cc in absurd (omega arith)
 picking-number (suc turns) p kind l t list n e =
@@ -131,16 +112,16 @@ picking-number (suc turns) p kind l t list n e =
     (λ b f. let z : _≡_ {A = ℕ} 0 1 = cc in absurd (omega arith))
     (λ b f. unless-number (askedFor p kind t list) t h rest n (picking-number turns p kind l (d .search) (d .held .list) n) (d .answer) refl f) e
 
-started-number : (p : Problem) (kind : CutsetKind) (l : Compile.Lent) (list after-list : List Place) (n : ℕ) (x : Start.Started) → start p i64Min list .answer ≡ x → startedOn p kind l after-list x ≡ Run.refused n → 1 ≤ n
+started-number : (p : Problem) (kind : CutsetKind) (l : Lent) (list after-list : List Place) (n : ℕ) (x : Start.Started) → start p i64Min list .answer ≡ x → startedOn p kind l after-list x ≡ Run.refused n → 1 ≤ n
 unfolding startedOn
 started-number p kind l list after-list n (Start.refused k) e f = let z : k ≡ n = cc in subst (λ (i : ℕ). 1 ≤ i) z (start-number p i64Min list k e)
 started-number p kind l list after-list n (started t) e f = picking-number allTurns p kind l t after-list n f
 
-run-number : (j : Job) (l : Compile.Lent) (list : List Place) (n : ℕ) → run j l list ≡ Run.refused n → 1 ≤ n
+run-number : (j : Job) (l : Lent) (list : List Place) (n : ℕ) → run j l list ≡ Run.refused n → 1 ≤ n
 unfolding run runOf
 run-number j l list n e = started-number (Run.problemOf j) (j .kind) l list _ n (start (Run.problemOf j) i64Min list .answer) refl e
 
-module _ (j : Job) (l : Compile.Lent) (list : List Place) (n : ℕ) where
+module _ (j : Job) (l : Lent) (list : List Place) (n : ℕ) where
   zero-answered : (x : Ending) → run j l list ≡ x → n ≡ endingNumber x → (n ≡ 0 → (s : Search) × (run j l list ≡ ended s)) × ((s : Search) → run j l list ≡ ended s → n ≡ 0)
   zero-answered (Run.refused k) e m = ((λ z. absurd (omega (arith, m, z, run-number j l list k e))), (λ s f. let z : _≡_ {A = ℕ} 0 1 = cc in absurd (omega arith)))
   zero-answered (ended s) e m = ((λ z. (s, e)), (λ t f. m))

@@ -9,10 +9,9 @@ use lib.ListN.{length}
 use Rattle.diagram.specs.Record.{padded}
 use Rattle.calls.specs.Asked.{Problem}
 use Rattle.calls.specs.Compile as Call
-use Rattle.calls.specs.Compile.{refused, compiled}
+use Rattle.calls.specs.Compile.{refused, compiled, compile}
 use Rattle.compile.specs.Answered.{answerFrom}
 use Rattle.searches.specs.Places.{Place}
-use Rattle.searches.specs.Compile.{compile}
 use Rattle.searches.specs.Search.{Search}
 use Rattle.searches.specs.Start as Start
 use Rattle.searches.specs.Start.{started, startRefusal, unless, start}

@@ -6,11 +6,10 @@ use Prim.Native.Nat.{ℕ}
 use lib.IntN.{ℤ}
 use lib.ListN.{length}
 use Rattle.calls.specs.Asked.{Problem}
-use Rattle.compile.specs.declared.Answer.{Answer}
-use Rattle.compile.specs.Answered.{answerFrom}
-use Rattle.compile_records.specs.Queried.{Compiles}
+use Rattle.calls.specs.Compile as Compile
+use Rattle.calls.specs.Compile.{Rooms, roomsOf, compileEffect}
+use Rattle.compile.specs.Asked.{lentOf}
 use Rattle.searches.specs.Places.{Place, rootPlace, overPlaces}
-use Rattle.searches.specs.Compile as Compile
 use Rattle.searches.specs.Start as Start
 use Rattle.searches.specs.Start.{startRefusal, unless, start}
 use Rattle.searches.specs.Pick as Pick
@@ -20,6 +19,7 @@ use Rattle.search.specs.declared.Picked.{Picked}
 use Rattle.search.specs.Answered.{startedFrom, pickedFrom}
 use Rattle.search.specs.Begins.{Begins}
 use Rattle.search.proofs.Twice.{starts-alike}
+use Rattle.pick_steps.specs.Tried.{heldIn}
 use Rattle.pick.specs.Picks.{Picks}
 use Rattle.search_corollaries.proofs.Twice as Below
 use Rattle.jobs.specs.Run.{Ending, run}
@@ -28,33 +28,36 @@ use Rattle.page_text.specs.declared.Output.{Output}
 use Rattle.page_text.proofs.Says.{one-output}
 use Rattle.job_text.proofs.Accepted.{Told, a-job, no-job, told}
 use Rattle.job_run.proofs.Twice.{one-job-run}
+use Rattle.job_run.proofs.Leaving.{effect-left}
 use Rattle.job_corollaries.proofs.Alike.{leaves-alike}
 use Rattle.border.specs.declared.Found.{Found}
 use Rattle.border.specs.declared.HostSearch.{HostSearch}
 use Rattle.border.specs.declared.Page.{Page}
-use Rattle.border.specs.Border.{numberOf, foundOf, hostSearchAfter, endingNumber, outputIn}
+use Rattle.border.specs.Border.{numberOf, hostSearchAfter, endingNumber, outputIn}
 use Rattle.host.specs.Promises.{CompilesFor, StartsFor, PicksFor, Shows}
 use Rattle.host_corollaries.specs.Twice.{PlacedAlike, OneCompile, OneStart, OnePick, OneJob, OneJobLeaves}
 
 -- ---- what a host's call leaves is what the call below it leaves
 
-compiles-below : (d : Compile.After) (n : ℕ) (found : Found) (ns es : List ℕ) (rs : List Place) → CompilesFor d n found ns es rs → Compiles d (answerFrom (d .answer)) ns es rs
-compiles-below d n found ns es rs h = record { answer-is = refl; nodes-are = h .nodes-are; edges-are = h .edges-are; records-are = h .records-are }
-
 pub begins-below : (d : Start.After) (n : ℕ) (old s : HostSearch) (list : List Place) → StartsFor d n old s list → Begins d (startedFrom (d .answer)) list
 begins-below d n old s list h = record { answered = refl; written = h .list-is }
 
-pub picks-below : (d : Pick.After) (n : ℕ) (old s : HostSearch) (ns es : List ℕ) (list scratch : List Place) → PicksFor d n old s ns es list scratch → Picks d (pickedFrom (d .answer) (d .search)) ns es list scratch
+pub picks-below : (d : Pick.After) (n : ℕ) (old s : HostSearch) (ns es : List ℕ) (list : List Place) (scratch : List ℕ) → PicksFor d n old s ns es list scratch → Picks d (pickedFrom (d .answer) (d .search)) ns es list scratch
 picks-below d n old s ns es list scratch h = record { answered = refl; nodes-are = h .nodes-are; edges-are = h .edges-are; list-is = h .list-is; scratch-is = h .scratch-is }
 
 -- ---- two calls
 
+compiled-lent : (d : Compile.After) (n : ℕ) (found : Found) (ns es rs : List ℕ) → CompilesFor d n found ns es rs → lentOf ns es rs ≡ d .lent
+compiled-lent d n found ns es rs h = rw (h .nodes-are, h .edges-are, h .records-are) refl
+
 pub one-compile : OneCompile
-one-compile q t t′ rooms n n′ found found′ ns es ns′ es′ r r′ h k =
-    let z = Below.one-compile q t t′ rooms _ _ ns es ns′ es′ r r′ (compiles-below (Compile.compile q t) n found ns es r h) (compiles-below (Compile.compile q t′) n′ found′ ns′ es′ r′ k) in (
-      h .number-is ∙ ap (λ (a : Answer). numberOf (a .verdict)) (z .answers) ∙ sym (k .number-is),
-      h .found-is ∙ ap foundOf (z .answers) ∙ sym (k .found-is),
-      record { written = z .written; first = z .first-lent; second = z .second-lent },
+unfolding Compile.compile Compile.after
+one-compile q t t′ rooms n n′ found found′ ns es r ns′ es′ r′ h k =
+    let w = compileEffect q (roomsOf t) in
+    let k₁ : CompilesFor (Compile.after w t′) n′ found′ ns′ es′ r′ = subst (λ (m : Rooms). CompilesFor (Compile.after (compileEffect q m) t′) n′ found′ ns′ es′ r′) (sym rooms) k in (
+      h .number-is ∙ sym (k₁ .number-is),
+      h .found-is ∙ sym (k₁ .found-is),
+      record { written = w; first = compiled-lent (Compile.after w t) n found ns es r h; second = compiled-lent (Compile.after w t′) n′ found′ ns′ es′ r′ k₁ },
     )
 
 -- a start writes the root record alone, or nothing
@@ -77,12 +80,11 @@ one-start p bound l l′ long n n′ old s s′ m m′ h k =
     )
 
 pub one-pick : OnePick
-one-pick q t h k input n n′ old s s′ ns es ns′ es′ l r l′ r′ x y =
-    let z = Below.one-pick q t h k input _ _ ns es ns′ es′ l r l′ r′ (picks-below (pick q t h) n old s ns es l r x) (picks-below (pick q t k) n′ old s′ ns′ es′ l′ r′ y) in
-    let held : List Place → Compile.Lent → Pick.Held = λ list lent. record { list = list; lent = lent } in (
+one-pick q t h k input n n′ old s s′ ns es r ns′ es′ r′ l l′ x y =
+    let z = Below.one-pick q t h k input _ _ ns es r ns′ es′ r′ l l′ (picks-below (pick q t h) n old s ns es l r x) (picks-below (pick q t k) n′ old s′ ns′ es′ l′ r′ y) in (
       x .number-is ∙ ap (λ (a : Picked). numberOf (a .verdict)) (z .answers) ∙ sym (y .number-is),
       x .search-is ∙ ap (λ (a : Picked). hostSearchAfter (a .verdict) (a .search) old) (z .answers) ∙ sym (y .search-is),
-      record { placed = z .placed; written = z .written; first = ap₂ held (z .first-list) (z .first-lent); second = ap₂ held (z .second-list) (z .second-lent) },
+      effect-left (z .placed) (z .written) (heldIn l ns es r) (heldIn l′ ns′ es′ r′) h k (z .first-list) (z .first-lent) (z .second-list) (z .second-lent),
     )
 
 -- one text shows as one page

@@ -2,19 +2,22 @@
 use mathlib.Core.Path.{_≡_}
 use mathlib.Core.Bool.{Bool}
 use mathlib.Core.List.{List, List·Memᴰ, map}
-use Prim.Native.Nat.{ℕ, _<_, _≤_}
+use Prim.Native.Nat.{ℕ, _*_, _<_, _≤_}
 use lib.IntN.{ℤ}
-use lib.ListN.{length, take, drop}
+use lib.ListN.{length, drop}
 use lib.Signed.{_≤ℤ_, _<ℤ_}
 use Rattle.words.specs.I64.{InI64}
+use Rattle.diagram.specs.Record.{Record}
+use Rattle.layout.specs.Table.{over}
+use Rattle.layout.specs.Records.{recordWords, recordTable}
 use Rattle.calls.specs.Asked.{Problem, Given}
-use Rattle.calls.specs.Compile.{Request}
+use Rattle.calls.specs.Compile.{Request, compile}
 use Rattle.demand2.specs.Records.{Completes, earns, RecordOptimum, Achieved, Valid}
 use Rattle.demand2.specs.Statements.{Covers}
-use Rattle.records.specs.declared.Record.{Record}
-use Rattle.records.specs.Structs.{places}
-use Rattle.searches.specs.Compile.{compile}
-use Rattle.compile_records.specs.Queried.{askedBy, lentOf}
+use Rattle.compile.specs.Asked.{lentOf}
+use Rattle.searches.specs.Places.{Place, givenAt, placeOf}
+use Rattle.records.specs.Structs.{placesIn}
+use Rattle.query.specs.Queried.{askedBy}
 use Rattle.border.specs.declared.Question.{Question}
 use Rattle.border.specs.declared.Found.{Found}
 use Rattle.border.specs.Border.{queryIn}
@@ -31,12 +34,12 @@ pub record Accepted : Type 0 where
   pub lower-is-i64 : InI64 (question .lower)
   pub nodes : List ℕ
   pub edges : List ℕ
-  pub records : List Record
+  pub records : List ℕ
   pub found : Found
   pub nodes-after : List ℕ
   pub edges-after : List ℕ
-  pub records-after : List Record
-  pub promised : CompilesFor (compile (askedWith weights profits question) (lentOf nodes edges (places records))) 0 found nodes-after edges-after (places records-after)
+  pub records-after : List ℕ
+  pub promised : CompilesFor (compile (askedWith weights profits question) (lentOf nodes edges records)) 0 found nodes-after edges-after records-after
 
 abbrev pub asked : Accepted → Request
 asked c = askedWith (c .weights) (c .profits) (c .question)
@@ -102,29 +105,29 @@ RelaxedNone =
 
 -- ---- the drained records of a relaxed run
 
--- they stand first in the list, as many as the answer says
-abbrev pub drained : Accepted → List Record
-drained c = take (c .found .drained) (c .records-after)
-
--- the record that a struct holds: its path is the first `depth` of the bytes
-abbrev pub givenIn : Record → Given
-givenIn r = record { capacity = r .capacity; value = r .value; bound = r .bound; depth = r .depth; path = take (r .depth) (r .path) }
+-- as many of the list's first records as the answer says, as they are read from its words
+abbrev pub drained : Accepted → List Place
+drained c = placesIn (c .found .drained) (c .records-after)
 
 -- each is valid, strictly deeper than the record, at most the item count deep, its bound at most the best value
-pub record IsDrained (c : Accepted) (r : Record) : Type 0 where
-  pub valid : Valid (problem c) (givenIn r)
-  pub deeper : c .question .root .depth < r .depth
-  pub deep : r .depth ≤ length (c .weights)
+pub record IsDrained (c : Accepted) (p : Place) : Type 0 where
+  pub valid : Valid (problem c) (givenAt p)
+  pub deeper : c .question .root .depth < p .depth
+  pub deep : p .depth ≤ length (c .weights)
   pub has-best : c .found .«has_best» ≡ 1
-  pub bounded : r .bound ≤ℤ c .found .best
+  pub bounded : p .bound ≤ℤ c .found .best
 
--- The list's rest is as it was. For every x above the lower bound and above the best exact value (if there is one) that some selection that fits and keeps the
--- record's path earns, one of the drained records has a bound of at least x, and some selection that fits and keeps that record's path earns at least x.
+-- They are written as words, each record as the layout has it, and are read as they were written; all are within the list, and its rest is as it was.
+-- For every x above the lower bound and above the best exact value (if there is one) that some selection that fits and keeps the record's path earns,
+-- one of the drained records has a bound of at least x, and some selection that fits and keeps that record's path earns at least x.
 pub record Drains (c : Accepted) : Type 0 where
-  pub counted : length (drained c) ≡ c .found .drained
-  pub rest : drop (c .found .drained) (c .records-after) ≡ drop (c .found .drained) (c .records)
-  pub each : (r : Record) → List·Memᴰ r (drained c) → IsDrained c r
-  pub cover : (x : ℤ) → c .question .lower <ℤ x → (c .found .«has_best_exact» ≡ 1 → c .found .«best_exact» <ℤ x) → (selection : List Bool) → Completes (problem c) (given c) selection → x ≤ℤ earns (problem c) selection → Covers (problem c) (map givenIn (drained c)) x
+  pub written : List Record
+  pub listed : c .records-after ≡ over (recordTable written) (c .records)
+  pub read : drained c ≡ map placeOf written
+  pub within : c .found .drained * recordWords ≤ length (c .records-after)
+  pub rest : drop (c .found .drained * recordWords) (c .records-after) ≡ drop (c .found .drained * recordWords) (c .records)
+  pub each : (p : Place) → List·Memᴰ p (drained c) → IsDrained c p
+  pub cover : (x : ℤ) → c .question .lower <ℤ x → (c .found .«has_best_exact» ≡ 1 → c .found .«best_exact» <ℤ x) → (selection : List Bool) → Completes (problem c) (given c) selection → x ≤ℤ earns (problem c) selection → Covers (problem c) (map givenAt (drained c)) x
 
 abbrev pub RelaxedDrains : Type 0
 RelaxedDrains = (c : Accepted) → IsRelaxed c → Drains c

@@ -2,7 +2,7 @@
 use mathlib.Core.List.{List}
 use Prim.Native.Nat.{ℕ}
 use lib.ListN.{length}
-use Rattle.searches.specs.Compile.{Lent}
+use Rattle.calls.specs.Compile.{Lent, roomsOf}
 use Rattle.searches.specs.Search.{Search}
 use Rattle.searches.specs.Pick.{Held}
 use Rattle.jobs.specs.Text.{Job, IsText}
@@ -17,7 +17,7 @@ use Rattle.host.specs.Promises.{RunsFor}
 -- the page is that of a search whose best value is the optimum
 pub record ShowsOptimum (j : Job) (l : Lent) (page : Page) : Type 0 where
   pub search : Search
-  pub answered : Answered (problemOf j) (length (l .records)) search
+  pub answered : Answered (problemOf j) (roomsOf l .records) search
   pub says : Says (pageOf (length (j .items)) search) 671 (outputIn page)
 
 abbrev pub HostJobIsOptimal : Type 0

@@ -4,9 +4,8 @@ use mathlib.Core.List.{List}
 use Prim.Native.Nat.{ℕ}
 use lib.IntN.{ℤ}
 use Rattle.calls.specs.Asked.{Problem}
-use Rattle.calls.specs.Compile.{Request, Compiled, compiled}
+use Rattle.calls.specs.Compile.{Request, Lent, Compiled, compiled, compile}
 use Rattle.searches.specs.Places.{Place}
-use Rattle.searches.specs.Compile as Compile
 use Rattle.searches.specs.Search.{Search}
 use Rattle.searches.specs.Start.{start, started}
 use Rattle.searches.specs.Pick as Pick
@@ -20,8 +19,8 @@ use Rattle.host.specs.Promises.{CompilesFor, StartsFor, PicksFor, RunsFor}
 
 abbrev pub ZeroIsCompiled : Type 0
 ZeroIsCompiled =
-    (q : Request) (l : Compile.Lent) (n : ℕ) (found : Found) (ns es : List ℕ) (rs : List Place) → CompilesFor (Compile.compile q l) n found ns es rs →
-    (n ≡ 0 → (c : Compiled) × (Compile.compile q l .answer ≡ compiled c)) × ((c : Compiled) → Compile.compile q l .answer ≡ compiled c → n ≡ 0)
+    (q : Request) (l : Lent) (n : ℕ) (found : Found) (ns es rs : List ℕ) → CompilesFor (compile q l) n found ns es rs →
+    (n ≡ 0 → (c : Compiled) × (compile q l .answer ≡ compiled c)) × ((c : Compiled) → compile q l .answer ≡ compiled c → n ≡ 0)
 
 abbrev pub ZeroIsStarted : Type 0
 ZeroIsStarted =
@@ -30,7 +29,7 @@ ZeroIsStarted =
 
 abbrev pub ZeroIsPicked : Type 0
 ZeroIsPicked =
-    (q : Pick.Asked) (t : Search) (h : Pick.Held) (n : ℕ) (old s : HostSearch) (ns es : List ℕ) (list scratch : List Place) → PicksFor (pick q t h) n old s ns es list scratch →
+    (q : Pick.Asked) (t : Search) (h : Pick.Held) (n : ℕ) (old s : HostSearch) (ns es : List ℕ) (list : List Place) (scratch : List ℕ) → PicksFor (pick q t h) n old s ns es list scratch →
     (n ≡ 0 → pick q t h .answer ≡ accepted) × (pick q t h .answer ≡ accepted → n ≡ 0)
 
 -- a job's run is accepted if it came to its end, with an empty list

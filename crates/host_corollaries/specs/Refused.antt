@@ -6,9 +6,8 @@ use Prim.Native.Nat.{ℕ}
 use lib.IntN.{ℤ, pos}
 use lib.ListN.{replicate}
 use Rattle.calls.specs.Asked.{Problem}
-use Rattle.calls.specs.Compile.{Request}
+use Rattle.calls.specs.Compile.{Request, Lent, compile}
 use Rattle.searches.specs.Places.{Place}
-use Rattle.searches.specs.Compile.{Lent, compile}
 use Rattle.searches.specs.Search.{Search}
 use Rattle.searches.specs.Start.{start}
 use Rattle.searches.specs.Pick as Pick
@@ -37,7 +36,7 @@ nothingFound =
     }
 
 abbrev pub RefusedCompileFindsNothing : Type 0
-RefusedCompileFindsNothing = (q : Request) (l : Lent) (n : ℕ) (found : Found) (ns es : List ℕ) (rs : List Place) → CompilesFor (compile q l) n found ns es rs → n ≢ 0 → found ≡ nothingFound
+RefusedCompileFindsNothing = (q : Request) (l : Lent) (n : ℕ) (found : Found) (ns es rs : List ℕ) → CompilesFor (compile q l) n found ns es rs → n ≢ 0 → found ≡ nothingFound
 
 -- 'refused, it gives no search and leaves the list unchanged'
 abbrev pub RefusedStartKeeps : Type 0
@@ -46,4 +45,4 @@ RefusedStartKeeps = (p : Problem) (bound : ℤ) (l : List Place) (n : ℕ) (old 
 -- 'A refused pick changes neither search nor open list'
 abbrev pub RefusedPickKeeps : Type 0
 RefusedPickKeeps =
-    (q : Pick.Asked) (t : Search) (h : Pick.Held) (n : ℕ) (old s : HostSearch) (ns es : List ℕ) (list scratch : List Place) → PicksFor (pick q t h) n old s ns es list scratch → n ≢ 0 → (s ≡ old) × (list ≡ h .list)
+    (q : Pick.Asked) (t : Search) (h : Pick.Held) (n : ℕ) (old s : HostSearch) (ns es : List ℕ) (list : List Place) (scratch : List ℕ) → PicksFor (pick q t h) n old s ns es list scratch → n ≢ 0 → (s ≡ old) × (list ≡ h .list)

@@ -5,15 +5,14 @@ use Prim.Native.Nat.{ℕ}
 use lib.IntN.{ℤ}
 use lib.ListN.{length}
 use Rattle.calls.specs.Asked.{Problem}
-use Rattle.calls.specs.Compile.{Request}
+use Rattle.calls.specs.Compile.{Request, Lent, roomsOf, Effect, after, compile}
+use Rattle.compile.specs.Asked.{lentOf}
 use Rattle.searches.specs.Places.{Place, overPlaces}
-use Rattle.searches.specs.Compile.{Lent, Effect, roomsOf, compile}
 use Rattle.searches.specs.Search.{Search}
 use Rattle.searches.specs.Start.{start}
 use Rattle.searches.specs.Pick as Pick
-use Rattle.searches.specs.Pick.{lentAfter, pick}
-use Rattle.compile_records.specs.Queried.{lentOf}
-use Rattle.pick.specs.Picks.{heldIn}
+use Rattle.searches.specs.Pick.{pick}
+use Rattle.pick_steps.specs.Tried.{heldIn}
 use Rattle.search_corollaries.specs.Twice.{SameInput}
 use Rattle.job_run.specs.Twice.{SameSizes, LeftAlike}
 use Rattle.border.specs.declared.Found.{Found}
@@ -24,8 +23,8 @@ use Rattle.host.specs.Promises.{CompilesFor, StartsFor, PicksFor, RunsFor}
 -- the same is written over two tables and a list, from their starts on
 pub record WrittenAlike (t t′ before before′ : Lent) : Type 0 where
   pub written : Effect
-  pub first : t ≡ lentAfter written before
-  pub second : t′ ≡ lentAfter written before′
+  pub first : t ≡ after written before .lent
+  pub second : t′ ≡ after written before′ .lent
 
 -- the same for a list alone
 pub record PlacedAlike (m m′ before before′ : List Place) : Type 0 where
@@ -35,7 +34,7 @@ pub record PlacedAlike (m m′ before before′ : List Place) : Type 0 where
 
 abbrev pub OneCompile : Type 0
 OneCompile =
-    (q : Request) (t t′ : Lent) → roomsOf t ≡ roomsOf t′ → (n n′ : ℕ) (found found′ : Found) (ns es ns′ es′ : List ℕ) (r r′ : List Place) →
+    (q : Request) (t t′ : Lent) → roomsOf t ≡ roomsOf t′ → (n n′ : ℕ) (found found′ : Found) (ns es r ns′ es′ r′ : List ℕ) →
     CompilesFor (compile q t) n found ns es r → CompilesFor (compile q t′) n′ found′ ns′ es′ r′ → (n ≡ n′) × (found ≡ found′) × WrittenAlike (lentOf ns es r) (lentOf ns′ es′ r′) t t′
 
 abbrev pub OneStart : Type 0
@@ -45,7 +44,7 @@ OneStart =
 
 abbrev pub OnePick : Type 0
 OnePick =
-    (q : Pick.Asked) (t : Search) (h k : Pick.Held) → SameInput t h k → (n n′ : ℕ) (old s s′ : HostSearch) (ns es ns′ es′ : List ℕ) (l r l′ r′ : List Place) →
+    (q : Pick.Asked) (t : Search) (h k : Pick.Held) → SameInput t h k → (n n′ : ℕ) (old s s′ : HostSearch) (ns es r ns′ es′ r′ : List ℕ) (l l′ : List Place) →
     PicksFor (pick q t h) n old s ns es l r → PicksFor (pick q t k) n′ old s′ ns′ es′ l′ r′ → (n ≡ n′) × (s ≡ s′) × LeftAlike (heldIn l ns es r) (heldIn l′ ns′ es′ r′) h k
 
 -- of one job's text

@@ -15,6 +15,7 @@ use Rattle.diagram.specs.After4.{CutsetKind}
 use Rattle.records.specs.declared.Record.{Record}
 use Rattle.records.specs.Structs.{places, noRecord}
 use Rattle.calls.specs.Asked.{Problem}
+use Rattle.calls.specs.Compile.{Lent}
 use Rattle.calls.specs.Refusals.{Check, firstOf, problemChecks}
 use Rattle.cutset.specs.Whole.{kindOf}
 use Rattle.searches.specs.Places.{Place}
@@ -22,8 +23,6 @@ use Rattle.searches.specs.Pick.{Held}
 use Rattle.searches.specs.Start.{startRefusal, unless, start}
 use Rattle.search.specs.declared.Picked.{Picked}
 use Rattle.search.specs.Asked.{problemOf}
-use Rattle.compile_records.specs.Queried.{lentOf}
-use Rattle.pick.specs.Picks.{heldIn}
 use Rattle.search.proofs.Firsts.{start-before}
 use Rattle.jobs.specs.Text.{Job, IsText}
 use Rattle.jobs.specs.Run as Def
@@ -37,7 +36,7 @@ use Rattle.job_text.specs.Kept.{room, weightsIn, profitsIn}
 use Rattle.job_text.specs.Reads.{kindFrom, readOf, Reads}
 use Rattle.job_text.proofs.Accepted.{kind-back}
 use Rattle.job_run.specs.Runs.{endingOf, leftIn}
-use Rattle.job.specs.Answered.{leftRead, runs, unreadNumber, leftIf, Answers, Leaves, LeavesTables, emptyPlaces}
+use Rattle.job.specs.Answered.{leftRead, runs, unreadNumber, leftIf, Answers, Leaves, LeavesLent, emptyPlaces}
 use Rattle.job.proofs.Steps.{runs-none}
 
 -- ---- the items that were kept
@@ -132,33 +131,24 @@ module _ (text : List ℕ) (h : Held) (r : ReadJob) (p : Picked) (after : Held) 
     pub answers : Answers text (h .lent) (h .list) o
     answers = record { of-job = says-job; outside = says-outside }
 
--- ---- over the first places of lists that are empty
+-- ---- over the first places of a list that is empty
 
 first-same : (k n : ℕ) (r : Record) → k ≤ n → take k (replicate n r) ≡ replicate k r
 first-same zero n r le = refl
 first-same (suc k) zero r le = absurd (omega (arith, le))
 first-same (suc k) (suc n) r le = ap (λ (xs : List Record). r ∷ xs) (first-same k n r (omega (arith, le)))
 
+-- of what a run leaves, the tables and the scratch list
+leaves-lent : (text : List ℕ) (h after : Held) → Leaves text h after → LeavesLent text h (after .lent)
+leaves-lent text h after x =
+    record { of-job = λ j is. ap (λ (y : Held). y .lent) (x .of-job j is); outside = λ none. ap (λ (y : Held). y .lent) (x .outside none) }
+
 -- k places are lent of a list of n, all empty, and k is the number a
-module _ (n k a : ℕ) (xs : List Record) (le : k ≤ n) (empty : xs ≡ replicate n noRecord) (is : k ≡ a) where
-  first-empty : places (take k xs) ≡ emptyPlaces a
+module _ (text : List ℕ) (l : Lent) (o : Output) (after : Held) (n k a : ℕ) (list : List Record) where
+  abbrev Told : List Place → Type 0
+  Told xs = Answers text l xs o × LeavesLent text (record { list = xs; lent = l }) (after .lent)
+
+  pub empty-list : k ≤ n → list ≡ replicate n noRecord → k ≡ a → Answers text l (places (take k list)) o × Leaves text (record { list = places (take k list); lent = l }) after → Told (emptyPlaces a)
   unfolding emptyPlaces
-  first-empty = ap (λ (ys : List Record). places (take k ys)) empty ∙ ap places (first-same k n noRecord le) ∙ ap (λ (x : ℕ). places (replicate x noRecord)) is
-
--- of what a run leaves, the tables
-leaves-tables : (text : List ℕ) (h after : Held) → Leaves text h after → LeavesTables text h (after .lent .nodes) (after .lent .edges)
-leaves-tables text h after x =
-    record {
-      of-job = λ j is. (ap (λ (y : Held). y .lent .nodes) (x .of-job j is), ap (λ (y : Held). y .lent .edges) (x .of-job j is));
-      outside = λ none. (ap (λ (y : Held). y .lent .nodes) (x .outside none), ap (λ (y : Held). y .lent .edges) (x .outside none));
-    }
-
-module _ (text ns es : List ℕ) (o : Output) (after : Held) (n k a m j b : ℕ) (list scratch : List Record) where
-  abbrev Told : List Place → List Place → Type 0
-  Told xs ys = Answers text (lentOf ns es ys) xs o × LeavesTables text (heldIn xs ns es ys) (after .lent .nodes) (after .lent .edges)
-
-  pub empty-lists : k ≤ n → list ≡ replicate n noRecord → k ≡ a → j ≤ m → scratch ≡ replicate m noRecord → j ≡ b
-      → Answers text (lentOf ns es (places (take j scratch))) (places (take k list)) o × Leaves text (heldIn (places (take k list)) ns es (places (take j scratch))) after → Told (emptyPlaces a) (emptyPlaces b)
-  empty-lists le e is le₁ e₁ is₁ x =
-      subst (λ (xs : List Place). Told xs (emptyPlaces b)) (first-empty n k a list le e is)
-      (subst (Told (places (take k list))) (first-empty m j b scratch le₁ e₁ is₁) (x .0, leaves-tables text _ after (x .1)))
+  empty-list le e is x =
+      subst Told (ap (λ (ys : List Record). places (take k ys)) e ∙ ap places (first-same k n noRecord le) ∙ ap (λ (y : ℕ). places (replicate y noRecord)) is) (x .0, leaves-lent text _ after (x .1))

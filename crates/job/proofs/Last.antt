@@ -4,11 +4,11 @@ use Prim.Native.Nat.{ℕ}
 use Rattle.records.specs.declared.Record.{Record}
 use Rattle.records.specs.Structs.{places}
 use Rattle.searches.specs.Pick.{Held}
-use Rattle.pick.specs.Picks.{heldIn}
+use Rattle.pick_steps.specs.Tried.{heldIn}
 
 -- the last lists of the mutable slices, and nothing of what was read
 abbrev pub Last : Type 0
-Last = Unit {0} × (List ℕ × (List ℕ × (List Record × (List Record × Unit {0}))))
+Last = Unit {0} × (List ℕ × (List ℕ × (List Record × (List ℕ × Unit {0}))))
 
 abbrev pub heldAt : Last → Held
-heldAt zs = heldIn (places (zs .1 .1 .1 .0)) (zs .1 .0) (zs .1 .1 .0) (places (zs .1 .1 .1 .1 .0))
+heldAt zs = heldIn (places (zs .1 .1 .1 .0)) (zs .1 .0) (zs .1 .1 .0) (zs .1 .1 .1 .1 .0)

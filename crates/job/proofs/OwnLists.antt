@@ -1,4 +1,4 @@
--- A list of n records in a local: made of n times one record, and its first places lent as a `&mut [Record]`, and back; and the two sizes of `answer`'s lists, with a rule for a large number in the code.
+-- A list of n records in a local: made of n times one record, and its first places lent as a `&mut [Record]`, and back; and the size of `answer`'s list, with a rule for a large number in the code.
 use mathlib.Core.Path.{_≡_, refl}
 use Prim.Native.Nat.{ℕ, zero, suc, _≤_, min}
 use native.Mathlib.Omega.{arith}
@@ -67,27 +67,17 @@ module _ {M : Type 1} (𝓤 : URA M) (H : Heap 𝓤) (A : Atoms 𝓤) (W : Given
     unfolding list-ty
     list-back xs zs γ l = first-back T.the-row (α ∷ []) n k b 0 𝓤 H A W tt xs zs γ l le
 
--- ---- the sizes, shut: a number that is written out would let a list of so many records be written out
+-- ---- the size, shut: a number that is written out would let a list of so many records be written out
 
 unfoldable pub most-open : ℕ
 most-open = 16384
 
-unfoldable pub most-scratch : ℕ
-most-scratch = 4096
-
 room-16384 : Room T.the-row 16384
 room-16384 = (omega arith, omega arith)
-
-room-4096 : Room T.the-row 4096
-room-4096 = (omega arith, omega arith)
 
 pub room-open : Room T.the-row most-open
 unfolding most-open
 room-open = room-16384
-
-pub room-scratch : Room T.the-row most-scratch
-unfolding most-scratch
-room-scratch = room-4096
 
 at-most : (k a n : ℕ) → k ≡ min a n → k ≤ n
 at-most k a n is = omega (arith, is)
@@ -95,10 +85,6 @@ at-most k a n is = omega (arith, is)
 pub few-open : (k a : ℕ) → k ≡ min a 16384 → k ≤ most-open
 unfolding most-open
 few-open k a is = at-most k a 16384 is
-
-pub few-scratch : (k a : ℕ) → k ≡ min a 4096 → k ≤ most-scratch
-unfolding most-scratch
-few-scratch k a is = at-most k a 4096 is
 
 -- ---- a large number in the code, whose bound is a fact and isn't computed
 

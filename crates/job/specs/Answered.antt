@@ -5,11 +5,11 @@ use mathlib.Core.List.{List}
 use Prim.Native.Nat.{ℕ, _<_, _≤_}
 use lib.Dec.{leb}
 use lib.ListN.{length, take, replicate}
+use Rattle.calls.specs.Compile.{Lent}
 use Rattle.refusals.specs.declared.Verdict.the-variants.{Accepted, Refused}
 use Rattle.records.specs.Structs.{places, noRecord}
 use Rattle.cutset.specs.Whole.{kindOf}
 use Rattle.searches.specs.Places.{Place}
-use Rattle.searches.specs.Compile.{Lent}
 use Rattle.searches.specs.Pick.{Held}
 use Rattle.search.specs.declared.Picked.{Picked}
 use Rattle.search.specs.Held.{noSearch}
@@ -58,10 +58,10 @@ pub record Leaves (text : List ℕ) (h after : Held) : Type 0 where
   pub of-job : (j : Job) → IsText text j → after ≡ leftBy j h .held
   pub outside : ((j : Job) → IsText text j → ⊥) → after ≡ h
 
--- the same of the tables alone
-pub record LeavesTables (text : List ℕ) (h : Held) (ns es : List ℕ) : Type 0 where
-  pub of-job : (j : Job) → IsText text j → (ns ≡ leftBy j h .held .lent .nodes) × (es ≡ leftBy j h .held .lent .edges)
-  pub outside : ((j : Job) → IsText text j → ⊥) → (ns ≡ h .lent .nodes) × (es ≡ h .lent .edges)
+-- the same of the tables and the scratch list alone
+pub record LeavesLent (text : List ℕ) (h : Held) (lent : Lent) : Type 0 where
+  pub of-job : (j : Job) → IsText text j → lent ≡ leftBy j h .held .lent
+  pub outside : ((j : Job) → IsText text j → ⊥) → lent ≡ h .lent
 
 -- a list of so many records, all 0; shut, so that nobody writes a large one out
 unfoldable pub emptyPlaces : ℕ → List Place

@@ -2,12 +2,12 @@
 ghost use mathlib.Core.Path.{_≡_};
 ghost use Prim.Native.Nat.{_≤_, min};
 ghost use Rattle.records.specs.Structs.{places};
-ghost use Rattle.compile_records.specs.Queried.{lentOf};
+ghost use Rattle.compile.specs.Asked.{lentOf};
 ghost use Rattle.jobs.specs.Page.{answerOf};
 ghost use Rattle.page_text.specs.Says.{Says};
-ghost use Rattle.pick.specs.Picks.{heldIn};
+ghost use Rattle.pick_steps.specs.Tried.{heldIn};
 ghost use Rattle.job_run.specs.Runs.{endingOf, leftIn};
-ghost use Rattle.job.specs.Answered.{leftRead, runs, unreadOf, leftIf, Writable, Answers, Leaves, LeavesTables, emptyPlaces};
+ghost use Rattle.job.specs.Answered.{leftRead, runs, unreadOf, leftIf, Writable, Answers, Leaves, LeavesLent, emptyPlaces};
 use job_text::ReadJob;
 use page_text::Output;
 use records::Record;
@@ -70,12 +70,12 @@ fn run_items(
     nodes: &mut [u64],
     edges: &mut [u64],
     list: &mut [Record],
-    scratch: &mut [Record],
+    scratch: &mut [u64],
 ) -> Picked
     requires { ⌜ r .count ≤ 64 ⌝ }
     ensures { λ p.
-        ⌜ leftIn p (heldIn (places (now (list .exit))) (now (nodes .exit)) (now (edges .exit)) (places (now (scratch .exit)))) ≡ leftRead r
-        (heldIn (places (now (list .entry))) (now (nodes .entry)) (now (edges .entry)) (places (now (scratch .entry)))) ⌝ }
+        ⌜ leftIn p (heldIn (places (now (list .exit))) (now (nodes .exit)) (now (edges .exit)) (now (scratch .exit))) ≡ leftRead r
+        (heldIn (places (now (list .entry))) (now (nodes .entry)) (now (edges .entry)) (now (scratch .entry))) ⌝ }
 {
     let weights = weights_of(r);
     let profits = profits_of(r);
@@ -98,11 +98,11 @@ pub fn run_if(
     nodes: &mut [u64],
     edges: &mut [u64],
     list: &mut [Record],
-    scratch: &mut [Record],
+    scratch: &mut [u64],
 ) -> Picked
     ensures { λ p.
-        ⌜ leftIn p (heldIn (places (now (list .exit))) (now (nodes .exit)) (now (edges .exit)) (places (now (scratch .exit)))) ≡ leftIf (runs r) r
-        (heldIn (places (now (list .entry))) (now (nodes .entry)) (now (edges .entry)) (places (now (scratch .entry)))) ⌝ }
+        ⌜ leftIn p (heldIn (places (now (list .exit))) (now (nodes .exit)) (now (edges .exit)) (now (scratch .exit))) ≡ leftIf (runs r) r
+        (heldIn (places (now (list .entry))) (now (nodes .entry)) (now (edges .entry)) (now (scratch .entry))) ⌝ }
 {
     if is_run(r) {
         run_items(r, nodes, edges, list, scratch)
@@ -133,12 +133,12 @@ pub fn run_job(
     nodes: &mut [u64],
     edges: &mut [u64],
     list: &mut [Record],
-    scratch: &mut [Record],
+    scratch: &mut [u64],
 ) -> Output
     ensures { λ o.
-        ⌜ Answers (now (text .entry)) (lentOf (now (nodes .entry)) (now (edges .entry)) (places (now (scratch .entry)))) (places (now (list .entry))) o
-        × Leaves (now (text .entry)) (heldIn (places (now (list .entry))) (now (nodes .entry)) (now (edges .entry)) (places (now (scratch .entry))))
-        (heldIn (places (now (list .exit))) (now (nodes .exit)) (now (edges .exit)) (places (now (scratch .exit)))) ⌝ }
+        ⌜ Answers (now (text .entry)) (lentOf (now (nodes .entry)) (now (edges .entry)) (now (scratch .entry))) (places (now (list .entry))) o
+        × Leaves (now (text .entry)) (heldIn (places (now (list .entry))) (now (nodes .entry)) (now (edges .entry)) (now (scratch .entry)))
+        (heldIn (places (now (list .exit))) (now (nodes .exit)) (now (edges .exit)) (now (scratch .exit))) ⌝ }
 {
     let r = job_text::read(text);
     let p = run_if(r, nodes, edges, list, scratch);
@@ -151,25 +151,22 @@ fn smaller(a: usize, b: usize) -> usize
     if a < b { a } else { b }
 }
 
-// The same over lists of its own: so many open and scratch places, all empty, and no more than 16,384 and 4,096. One function for
-// programs of all sizes, since its proof is a walk by hand.
+// The same over an open list of its own: so many places, all empty, and no more than 16,384. One function for programs of all sizes,
+// since its proof is a walk by hand.
 pub fn answer(
     text: &[u8],
     nodes: &mut [u64],
     edges: &mut [u64],
+    scratch: &mut [u64],
     open_places: usize,
-    scratch_places: usize,
 ) -> Output
     ensures { λ o.
-        ⌜ Answers (now (text .entry)) (lentOf (now (nodes .entry)) (now (edges .entry)) (emptyPlaces (min «scratch_places» 4096)))
-        (emptyPlaces (min «open_places» 16384)) o × LeavesTables (now (text .entry))
-        (heldIn (emptyPlaces (min «open_places» 16384)) (now (nodes .entry)) (now (edges .entry)) (emptyPlaces (min «scratch_places» 4096)))
-        (now (nodes .exit)) (now (edges .exit)) ⌝ }
+        ⌜ Answers (now (text .entry)) (lentOf (now (nodes .entry)) (now (edges .entry)) (now (scratch .entry))) (emptyPlaces (min «open_places» 16384)) o
+        × LeavesLent (now (text .entry)) (heldIn (emptyPlaces (min «open_places» 16384)) (now (nodes .entry)) (now (edges .entry)) (now (scratch .entry)))
+        (lentOf (now (nodes .exit)) (now (edges .exit)) (now (scratch .exit))) ⌝ }
 {
     let none = records::empty();
     let mut list = [none; 16384];
-    let mut scratch = [none; 4096];
     let n = smaller(open_places, 16384);
-    let m = smaller(scratch_places, 4096);
-    run_job(text, nodes, edges, &mut list[..n], &mut scratch[..m])
+    run_job(text, nodes, edges, &mut list[..n], scratch)
 }

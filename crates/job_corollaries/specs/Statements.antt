@@ -3,16 +3,17 @@ use mathlib.Core.Path.{_≡_}
 use mathlib.Core.List.{List}
 use Prim.Native.Nat.{ℕ, min}
 use lib.ListN.{length}
+use Rattle.calls.specs.Compile.{Lent, roomsOf}
+use Rattle.call_laws.specs.Statements.{SameLengths}
+use Rattle.compile.specs.Asked.{lentOf}
 use Rattle.records.specs.declared.Record.{Record}
 use Rattle.records.specs.Structs.{places}
-use Rattle.searches.specs.Compile.{Lent, roomsOf}
 use Rattle.searches.specs.Pick.{Held}
-use Rattle.compile_records.specs.Queried.{lentOf}
-use Rattle.pick.specs.Picks.{heldIn}
+use Rattle.pick_steps.specs.Tried.{heldIn}
 use Rattle.demand2.specs.Records.{SameWords}
 use Rattle.page_text.specs.declared.Output.{Output}
 use Rattle.job_run.specs.Twice.{SameSizes, LeftAlike}
-use Rattle.job.specs.Answered.{Answers, Leaves, LeavesTables, emptyPlaces}
+use Rattle.job.specs.Answered.{Answers, Leaves, LeavesLent, emptyPlaces}
 
 -- A call of `run_job` that has come back: what it was lent, its output, and what lists and tables hold after it; `promised` is what it ensures.
 pub record Ran : Type 0 where
@@ -20,13 +21,13 @@ pub record Ran : Type 0 where
   pub nodes : List ℕ
   pub edges : List ℕ
   pub list : List Record
-  pub scratch : List Record
+  pub scratch : List ℕ
   pub output : Output
   pub after : Held
-  pub promised : Answers text (lentOf nodes edges (places scratch)) (places list) output × Leaves text (heldIn (places list) nodes edges (places scratch)) after
+  pub promised : Answers text (lentOf nodes edges scratch) (places list) output × Leaves text (heldIn (places list) nodes edges scratch) after
 
 abbrev pub lentTo : Ran → Lent
-lentTo c = lentOf (c .nodes) (c .edges) (places (c .scratch))
+lentTo c = lentOf (c .nodes) (c .edges) (c .scratch)
 
 -- The same text, as many rows and places: tables of one length have as many rows.
 pub record RanAlike (c d : Ran) : Type 0 where
@@ -38,26 +39,25 @@ abbrev pub OneOutput : Type 0
 OneOutput = (c d : Ran) → RanAlike c d → c .output ≡ d .output
 
 abbrev pub heldBy : Ran → Held
-heldBy c = heldIn (places (c .list)) (c .nodes) (c .edges) (places (c .scratch))
+heldBy c = heldIn (places (c .list)) (c .nodes) (c .edges) (c .scratch)
 
 -- In tables of one length, and not only of as many rows, what is left is the same writing over what each held.
 abbrev pub OneLeft : Type 0
 OneLeft = (c d : Ran) → c .text ≡ d .text → SameSizes (heldBy c) (heldBy d) → LeftAlike (c .after) (d .after) (heldBy c) (heldBy d)
 
--- A call of `answer` that has come back; the lists are its own.
+-- A call of `answer` that has come back: what it was lent, its output, and what tables and scratch list hold after it; the open list is its own.
 pub record Answered : Type 0 where
   pub text : List ℕ
   pub nodes : List ℕ
   pub edges : List ℕ
+  pub scratch : List ℕ
   pub open-places : ℕ
-  pub scratch-places : ℕ
   pub output : Output
-  pub nodes-after : List ℕ
-  pub edges-after : List ℕ
-  pub promised : Answers text (lentOf nodes edges (emptyPlaces (min scratch-places 4096))) (emptyPlaces (min open-places 16384)) output × LeavesTables text (heldIn (emptyPlaces (min open-places 16384)) nodes edges (emptyPlaces (min scratch-places 4096))) nodes-after edges-after
+  pub after : Lent
+  pub promised : Answers text (lentOf nodes edges scratch) (emptyPlaces (min open-places 16384)) output × LeavesLent text (heldIn (emptyPlaces (min open-places 16384)) nodes edges scratch) after
 
 abbrev pub lentBy : Answered → Lent
-lentBy c = lentOf (c .nodes) (c .edges) (emptyPlaces (min (c .scratch-places) 4096))
+lentBy c = lentOf (c .nodes) (c .edges) (c .scratch)
 
 pub record AnsweredAlike (c d : Answered) : Type 0 where
   pub texts : c .text ≡ d .text
@@ -67,11 +67,12 @@ pub record AnsweredAlike (c d : Answered) : Type 0 where
 abbrev pub OneAnswer : Type 0
 OneAnswer = (c d : Answered) → AnsweredAlike c d → c .output ≡ d .output
 
-pub record SameTables (c d : Answered) : Type 0 where
-  pub nodes : SameWords (c .nodes) (c .nodes-after) (d .nodes) (d .nodes-after)
-  pub edges : SameWords (c .edges) (c .edges-after) (d .edges) (d .edges-after)
+-- the same words over what two calls were lent
+pub record SameTables (before after before′ after′ : Lent) : Type 0 where
+  pub nodes : SameWords (before .nodes) (after .nodes) (before′ .nodes) (after′ .nodes)
+  pub edges : SameWords (before .edges) (after .edges) (before′ .edges) (after′ .edges)
+  pub records : SameWords (before .records) (after .records) (before′ .records) (after′ .records)
 
 abbrev pub AnswerLeavesOne : Type 0
 AnswerLeavesOne =
-    (c d : Answered) → c .text ≡ d .text → c .open-places ≡ d .open-places → c .scratch-places ≡ d .scratch-places →
-    length (c .nodes) ≡ length (d .nodes) → length (c .edges) ≡ length (d .edges) → SameTables c d
+    (c d : Answered) → c .text ≡ d .text → c .open-places ≡ d .open-places → SameLengths (lentBy c) (lentBy d) → SameTables (lentBy c) (c .after) (lentBy d) (d .after)

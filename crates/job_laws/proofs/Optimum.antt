@@ -15,6 +15,7 @@ use Rattle.knapsack.specs.Best.{best}
 use Rattle.knapsack.proofs.Best.{best-is-optimum}
 use Rattle.diagram.specs.After4.{CutsetKind}
 use Rattle.calls.specs.Asked.{Problem}
+use Rattle.calls.specs.Compile.{Lent, roomsOf}
 use Rattle.demand2.specs.Records.{itemsIn, Allowed}
 use Rattle.demand3.specs.Searches.{larger}
 use Rattle.demand3.proofs.Always.{start-accepted}
@@ -24,7 +25,6 @@ use Rattle.demand3.proofs.Empties.{pick-counted, pick-u64, begun-picks}
 use Rattle.demand3.proofs.Widths.{earns-at-most}
 use Rattle.demand3.specs.Statements.{countOf}
 use Rattle.searches.specs.Places.{Place}
-use Rattle.searches.specs.Compile.{Lent}
 use Rattle.searches.specs.Search.{Search, mostPicks}
 use Rattle.searches.specs.Start as Start
 use Rattle.searches.specs.Start.{start}
@@ -51,7 +51,7 @@ record Reached (p : Problem) (most : ℕ) (s : Search) : Type 0 where
 
 module _ (p : Problem) (kind : CutsetKind) (l : Lent) (s′ : Search) where
   abbrev most : ℕ
-  most = length (l .records)
+  most = roomsOf l .records
 
   -- the pick of a turn
   abbrev picked : Search → List Place → After
@@ -120,7 +120,7 @@ run-answers-the-optimum p kind l list s h =
     let r = reached p kind l s list h in
     let t = r .1 .trace in
     let b = blocksOf p in
-    let most = length (l .records) in
+    let most = roomsOf l .records in
     let x = best (itemsIn p) (p .page) in
     let o = best-is-optimum (itemsIn p) (p .page) in
     let e = empty-means-optimal b i64Min most s (r .1 .list) lowest t (r .1 .empty) x o in

@@ -8,10 +8,10 @@ use lib.ListN.{length}
 use Rattle.knapsack.specs.Knapsack.{Optimum}
 use Rattle.diagram.specs.After4.{CutsetKind}
 use Rattle.calls.specs.Asked.{Problem}
+use Rattle.calls.specs.Compile.{Lent, roomsOf}
 use Rattle.demand2.specs.Records.{itemsIn}
 use Rattle.demand3.specs.Searches.{geometric, IsSelection}
 use Rattle.searches.specs.Places.{Place}
-use Rattle.searches.specs.Compile.{Lent}
 use Rattle.searches.specs.Search.{Search}
 use Rattle.searches.specs.Trace.{Blocks}
 use Rattle.jobs.specs.Run.{ended, runOf}
@@ -32,4 +32,4 @@ pub record Answered (p : Problem) (scratch : ℕ) (s : Search) : Type 0 where
   pub selection : IsSelection (blocksOf p) (s .path) (s .best)
 
 abbrev pub RunAnswersTheOptimum : Type 0
-RunAnswersTheOptimum = (p : Problem) (kind : CutsetKind) (l : Lent) (list : List Place) (s : Search) → runOf p kind l list ≡ ended s → Answered p (length (l .records)) s
+RunAnswersTheOptimum = (p : Problem) (kind : CutsetKind) (l : Lent) (list : List Place) (s : Search) → runOf p kind l list ≡ ended s → Answered p (roomsOf l .records) s

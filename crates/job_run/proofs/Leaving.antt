@@ -9,14 +9,16 @@ use lib.ListN.{length, drop}
 use Rattle.words.specs.I64.{i64Min}
 use Rattle.diagram.specs.After4.{CutsetKind}
 use Rattle.layout.specs.Table.{over}
+use Rattle.layout.specs.Records.{recordTable}
 use Rattle.calls.specs.Asked.{Problem}
-use Rattle.calls.specs.Compile.{refused}
+use Rattle.calls.specs.Compile as Call
+use Rattle.calls.specs.Compile.{Lent, roomsOf, Effect}
+use Rattle.call_laws.specs.Statements.{Words, SameLengths}
 use Rattle.searches.specs.Places.{Place, rootPlace, overPlaces}
-use Rattle.searches.specs.Compile.{Lent, Effect, roomsOf}
 use Rattle.searches.specs.Search.{Search, openIn}
 use Rattle.searches.specs.Start as Start
 use Rattle.searches.specs.Start.{start, startRefusal}
-use Rattle.searches.specs.Pick.{Asked, Held, After, Picked, refusedBy, accepted, lentAfter, pick}
+use Rattle.searches.specs.Pick.{Asked, Held, After, Picked, refusedBy, accepted, pick}
 use Rattle.search_corollaries.specs.Twice.{PickedAlike}
 use Rattle.search_corollaries.proofs.Twice.{picks-alike}
 use Rattle.jobs.specs.Run.{askedFor, allTurns}
@@ -32,32 +34,34 @@ over-twice {A} (y ∷ a) [] x = ap (λ (l : List A). l ++ drop (length l) x) (sy
 over-twice {A} (y ∷ a) (z ∷ b) [] = ap (λ (l : List A). (y ∷ a) ++ drop (length (y ∷ a)) l) (append-nil (z ∷ b)) ∙ sym (append-nil ((y ∷ a) ++ drop (length (y ∷ a)) (z ∷ b)))
 over-twice {A} (y ∷ a) (z ∷ b) (u ∷ x) = ap (λ (l : List A). y ∷ l) (over-twice a b x)
 
-abbrev both : Effect → Effect → Effect
-both v w = record { answer = v .answer; nodes = over (v .nodes) (w .nodes); edges = over (v .edges) (w .edges); records = overPlaces (v .records) (w .records) }
+abbrev both : Words → Words → Words
+both v w = record { nodes = over (v .nodes) (w .nodes); edges = over (v .edges) (w .edges); records = over (v .records) (w .records) }
 
-written-twice : (ps qs : List Place) (v w : Effect) (h : Held) → writtenOver ps v (writtenOver qs w h) ≡ writtenOver (overPlaces ps qs) (both v w) h
-unfolding overPlaces lentAfter over
+written-twice : (ps qs : List Place) (v w : Words) (h : Held) → writtenOver ps v (writtenOver qs w h) ≡ writtenOver (overPlaces ps qs) (both v w) h
+unfolding overPlaces over
 written-twice ps qs v w h =
     rw (over-twice ps qs (h .list), over-twice (v .nodes) (w .nodes) (h .lent .nodes), over-twice (v .edges) (w .edges) (h .lent .edges), over-twice (v .records) (w .records) (h .lent .records)) refl
 
-still-sized : (ps : List Place) (w : Effect) (h k : Held) → SameSizes h k → SameSizes (writtenOver ps w h) (writtenOver ps w k)
-unfolding overPlaces lentAfter over
+still-sized : (ps : List Place) (w : Words) (h k : Held) → SameSizes h k → SameSizes (writtenOver ps w h) (writtenOver ps w k)
+unfolding overPlaces over
 still-sized ps w h k z =
     record {
       list = over-long ps (h .list) (k .list) (z .list);
-      nodes = over-long (w .nodes) (h .lent .nodes) (k .lent .nodes) (z .nodes);
-      edges = over-long (w .edges) (h .lent .edges) (k .lent .edges) (z .edges);
-      records = over-long (w .records) (h .lent .records) (k .lent .records) (z .records);
+      lent = record {
+        nodes = over-long (w .nodes) (h .lent .nodes) (k .lent .nodes) (z .lent .nodes);
+        edges = over-long (w .edges) (h .lent .edges) (k .lent .edges) (z .lent .edges);
+        records = over-long (w .records) (h .lent .records) (k .lent .records) (z .lent .records);
+      };
     }
 
 -- ---- what is left, step by step
 
-abbrev nothing : Effect
-nothing = record { answer = refused 0; nodes = []; edges = []; records = [] }
+abbrev nothing : Words
+nothing = record { nodes = []; edges = []; records = [] }
 
 -- nothing is written
 pub unwritten : (h k : Held) → LeftAlike h k h k
-unfolding overPlaces lentAfter over
+unfolding overPlaces over
 unwritten h k = record { placed = []; written = nothing; first = refl; second = refl }
 
 then-left : (d e x y h k : Held) → LeftAlike d e h k → LeftAlike x y d e → LeftAlike x y h k
@@ -73,10 +77,15 @@ sized-after : (d e h k : Held) → LeftAlike d e h k → SameSizes h k → SameS
 sized-after d e h k a z =
     subst (λ (x : Held). SameSizes x e) (sym (a .first)) (subst (λ (x : Held). SameSizes (writtenOver (a .placed) (a .written) h) x) (sym (a .second)) (still-sized (a .placed) (a .written) h k z))
 
-pick-left : (d e : After) (h k : Held) → PickedAlike d e h k → LeftAlike (d .held) (e .held) h k
-pick-left d e h k a =
+-- what a compile's effect writes, and places over the lists
+pub effect-left : (ps : List Place) (w : Effect) (d e h k : Held) → d .list ≡ overPlaces ps (h .list) → d .lent ≡ Call.after w (h .lent) .lent → e .list ≡ overPlaces ps (k .list) → e .lent ≡ Call.after w (k .lent) .lent → LeftAlike d e h k
+unfolding Call.after
+effect-left ps w d e h k a b f g =
     let held : List Place → Lent → Held = λ list lent. record { list = list; lent = lent } in
-    record { placed = a .placed; written = a .written; first = ap₂ held (a .first-list) (a .first-lent); second = ap₂ held (a .second-list) (a .second-lent) }
+    record { placed = ps; written = record { nodes = w .nodes; edges = w .edges; records = recordTable (w .drained) }; first = ap₂ held a b; second = ap₂ held f g }
+
+pick-left : (d e : After) (h k : Held) → PickedAlike d e h k → LeftAlike (d .held) (e .held) h k
+pick-left d e h k a = effect-left (a .placed) (a .written) (d .held) (e .held) h k (a .first-list) (a .first-lent) (a .second-list) (a .second-lent)
 
 -- a refused pick is the last; a search without open records has ended
 by-answer : (a : Picked) (d e x y h k : Held) → LeftAlike d e h k → LeftAlike x y h k → LeftAlike (unlessLast a d x) (unlessLast a e y) h k
@@ -88,9 +97,9 @@ by-open : (b : Bool) (x y h k : Held) → LeftAlike x y h k → LeftAlike (elim 
 by-open true x y h k a = unwritten h k
 by-open false x y h k a = a
 
-same-rooms : (h k : Held) → SameSizes h k → roomsOf (h .lent) ≡ roomsOf (k .lent)
+same-rooms : (l m : Lent) → SameLengths l m → roomsOf l ≡ roomsOf m
 unfolding roomsOf
-same-rooms h k z = rw (z .nodes, z .edges, z .records) refl
+same-rooms l m z = rw (z .nodes, z .edges, z .records) refl
 
 module _ (p : Problem) (kind : CutsetKind) where
   picks-left : (turns : ℕ) (s : Search) (h k : Held) → openIn s (h .list) ≡ openIn s (k .list) → SameSizes h k → LeftAlike (pickingLeaves turns p kind s h) (pickingLeaves turns p kind s k) h k
@@ -101,7 +110,7 @@ module _ (p : Problem) (kind : CutsetKind) where
       let d = pick q s h in
       let e = pick (askedFor p kind s (k .list)) s k in
       let a : PickedAlike d e h k =
-      subst (λ (x : Asked). PickedAlike d (pick x s k) h k) (asked-alike p kind s (h .list) (k .list) o) (picks-alike q s h k (record { opened = o; long = z .list; rooms = same-rooms h k z })) in
+      subst (λ (x : Asked). PickedAlike d (pick x s k) h k) (asked-alike p kind s (h .list) (k .list) o) (picks-alike q s h k (record { opened = o; long = z .list; rooms = same-rooms (h .lent) (k .lent) (z .lent) })) in
       let one = pick-left d e h k a in
       let rest : LeftAlike (pickingLeaves turns p kind (d .search) (d .held)) (pickingLeaves turns p kind (e .search) (e .held)) (d .held) (e .held) =
       subst (λ (t : Search). LeftAlike (pickingLeaves turns p kind (d .search) (d .held)) (pickingLeaves turns p kind t (e .held)) (d .held) (e .held)) (a .searches)
@@ -115,7 +124,7 @@ module _ (p : Problem) (kind : CutsetKind) where
   rooted h = record { list = overPlaces (rootPlace (p .page) ∷ []) (h .list); lent = h .lent }
 
   start-left : (h k : Held) → LeftAlike (rooted h) (rooted k) h k
-  unfolding lentAfter over overPlaces
+  unfolding over overPlaces
   start-left h k = record { placed = rootPlace (p .page) ∷ []; written = nothing; first = refl; second = refl }
 
   both-open : (h k : Held) → openIn (Start.begun i64Min) (rooted h .list) ≡ openIn (Start.begun i64Min) (rooted k .list)

@@ -45,7 +45,7 @@ pub record Passed : Type 0 where
   pub scratch-block : ℕ
   pub scratch-offset : ℕ
   pub scratch-name : GName
-  pub scratch-now : List Record
+  pub scratch-now : List ℕ
   pub ask : Ask
   pub ask-val : Val
   pub weights-room : Room u64 (length (weights .now))
@@ -53,7 +53,7 @@ pub record Passed : Type 0 where
   pub nodes-room : Room u64 (length nodes-now)
   pub edges-room : Room u64 (length edges-now)
   pub list-room : Room T.the-row (length list-now)
-  pub scratch-room : Room T.the-row (length scratch-now)
+  pub scratch-room : Room u64 (length scratch-now)
   pub ask-is : Is K.the-row ask (ask-val ∷ [])
 
 module _ (p : Passed) where
@@ -66,7 +66,7 @@ module _ (p : Passed) where
   abbrev pub list : GName → List Record → RefT (List Record)
   list δ l = record { ptr = (p .list-block, p .list-offset); name = δ; now = l }
 
-  abbrev pub scratch : GName → List Record → RefT (List Record)
+  abbrev pub scratch : GName → List ℕ → RefT (List ℕ)
   scratch δ l = record { ptr = (p .scratch-block, p .scratch-offset); name = δ; now = l }
 
   abbrev pub weights-val : Val
@@ -103,5 +103,5 @@ module _ (p : Passed) where
   abbrev pub Listed : List Record → Fml
   Listed l = MutSlice (named 4) (p .κ₄) T.the-row .own (list (p .list-name) l) (list-val ∷ [])
 
-  abbrev pub Scratch : List Record → Fml
-  Scratch l = MutSlice (named 5) (p .κ₅) T.the-row .own (scratch (p .scratch-name) l) (scratch-val ∷ [])
+  abbrev pub Scratch : List ℕ → Fml
+  Scratch l = MutSlice (named 5) (p .κ₅) u64 .own (scratch (p .scratch-name) l) (scratch-val ∷ [])

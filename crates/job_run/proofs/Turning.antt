@@ -21,21 +21,17 @@ use Rattle.words.specs.I64.{i64Min}
 use Rattle.diagram.specs.After4.{CutsetKind}
 use Rattle.calls.specs.Asked.{Problem, Given}
 use Rattle.calls.specs.Compile as Call
-use Rattle.calls.specs.Compile.{refused, compiled}
+use Rattle.calls.specs.Compile.{Lent, roomsOf, refused, compiled, Effect, compileEffect}
+use Rattle.compile.specs.Asked.{lentOf}
 use Rattle.refusals.specs.declared.Verdict.{Verdict}
 use Rattle.refusals.specs.declared.Verdict.the-variants.{Accepted, Refused}
-use Rattle.records.specs.declared.Record.{Record}
-use Rattle.records.specs.Structs.{places}
-use Rattle.records.proofs.Places.{places-length}
-use Rattle.compile_records.specs.Queried.{lentOf}
 use Rattle.searches.specs.Places.{Place, overPlaces}
-use Rattle.searches.specs.Compile.{Lent, Effect, roomsOf, compileEffect}
 use Rattle.searches.specs.Search as Def
 use Rattle.searches.specs.Search.{mostPicks, openIn, without}
 use Rattle.searches.specs.Start as Start
 use Rattle.searches.specs.Start.{start, begun}
 use Rattle.searches.specs.Pick as Pick
-use Rattle.searches.specs.Pick.{Asked, Held, After, refusedBy, accepted, pickRefusal, pickedFrom, requestFor, refusing, accepting, better, onePickMore, ifRoom, appended, lentAfter, afterCompile, ifAbove, unless, pick}
+use Rattle.searches.specs.Pick.{Asked, Held, After, refusedBy, accepted, pickRefusal, pickedFrom, requestFor, refusing, accepting, better, onePickMore, ifRoom, appended, drainedPlaces, afterCompile, ifAbove, unless, pick}
 use Rattle.search.specs.declared.Search.{Search}
 use Rattle.search.specs.declared.Started.{Started}
 use Rattle.search.specs.declared.Picked.{Picked}
@@ -48,7 +44,8 @@ use Rattle.search.proofs.Firsts.{refused-first, allowed}
 use Rattle.search.specs.declared.Ask.{Ask}
 use Rattle.search.specs.Asked.{problemOf}
 use Rattle.cutset.specs.Whole.{kindOf}
-use Rattle.pick.specs.Picks.{askedIn, heldIn, Picks}
+use Rattle.pick_steps.specs.Tried.{askedIn, heldIn}
+use Rattle.pick.specs.Picks.{Picks}
 use Rattle.search_corollaries.proofs.Twice.{picks-alike}
 use Rattle.jobs.specs.Run as Run
 use Rattle.jobs.specs.Run.{Ending, ended, largest, askedFor, unlessRefused, picking, allTurns, startedOn, runOf}
@@ -96,11 +93,11 @@ room-counts false s s₁ left list l e = refusing-counts 13 s s list l
 
 compiled-counts : (a : Call.Answer) (w : Effect) (s : Def.Search) (rest : List Place) (h : Held) → IfAccepted s (afterCompile a w s rest h)
 unfolding afterCompile
-compiled-counts (refused n) w s rest h = refusing-counts n s s (h .list) (lentAfter w (h .lent))
+compiled-counts (refused n) w s rest h = refusing-counts n s s (h .list) (Call.after w (h .lent) .lent)
 compiled-counts (compiled c) w s rest h =
     let s₁ = better (c .bestExact) (c .exactPath) s in
-    let left = rest ++ appended (c .exact) (s₁ .best) (w .records) in
-    room-counts (leb (length left) (length (h .list))) s s₁ left (h .list) (lentAfter w (h .lent)) (better-picks (c .bestExact) (c .exactPath) s)
+    let left = rest ++ appended (c .exact) (s₁ .best) (drainedPlaces w) in
+    room-counts (leb (length left) (length (h .list))) s s₁ left (h .list) (Call.after w (h .lent) .lent) (better-picks (c .bestExact) (c .exactPath) s)
 
 above-counts : (b : Bool) (q : Asked) (s : Def.Search) (g : Given) (rest : List Place) (h : Held) → IfAccepted s (ifAbove b q s g rest h)
 unfolding ifAbove
@@ -149,14 +146,14 @@ same-picks q s list l m e =
     let z = picks-alike q s (record { list = list; lent = l }) (record { list = list; lent = m }) (record { opened = refl; long = refl; rooms = e }) in
     record { answers = z .answers; searches = z .searches; lists = z .first-list ∙ sym (z .second-list) }
 
-pub same-rooms : (ns ns′ es es′ : List ℕ) (xs xs′ : List Record) → length ns′ ≡ length ns → length es′ ≡ length es → length xs′ ≡ length xs → roomsOf (lentOf ns es (places xs)) ≡ roomsOf (lentOf ns′ es′ (places xs′))
+pub same-rooms : (ns ns′ es es′ xs xs′ : List ℕ) → length ns′ ≡ length ns → length es′ ≡ length es → length xs′ ≡ length xs → roomsOf (lentOf ns es xs) ≡ roomsOf (lentOf ns′ es′ xs′)
 unfolding roomsOf
-same-rooms ns ns′ es es′ xs xs′ a b c = rw (a, b, places-length xs, places-length xs′, c) refl
+same-rooms ns ns′ es es′ xs xs′ a b c = rw (a, b, c) refl
 
 -- ---- the run
 
 -- the four slices after a pick are what it leaves
-held-is : (d : After) (r : Picked) (ns es : List ℕ) (list scratch : List Place) → Picks d r ns es list scratch → d .held ≡ heldIn list ns es scratch
+held-is : (d : After) (r : Picked) (ns es : List ℕ) (list : List Place) (scratch : List ℕ) → Picks d r ns es list scratch → d .held ≡ heldIn list ns es scratch
 held-is d r ns es list scratch x = rw (x .list-is, x .nodes-are, x .edges-are, x .scratch-is) refl
 
 module _ (p : Problem) (kind : CutsetKind) (l : Lent) (e : Ending) (k : Held) where
@@ -244,7 +241,7 @@ module _ (p : Problem) (kind : CutsetKind) (l : Lent) (e : Ending) (k : Held) wh
     pub less : rest < turns
     pub going : Going rest r after
 
-  module _ (h : Held) (rooms : roomsOf l ≡ roomsOf (h .lent)) (r : Picked) (ns es : List ℕ) (after scratch : List Place) where
+  module _ (h : Held) (rooms : roomsOf l ≡ roomsOf (h .lent)) (r : Picked) (ns es : List ℕ) (after : List Place) (scratch : List ℕ) where
     turned-on : (turns : ℕ) (s : Def.Search) → GoesOn turns s h → eqb (s .opened) 0 ≡ false
         → Picks (pick (askedFor p kind s (h .list)) s h) r ns es after scratch → Turned turns r (heldIn after ns es scratch)
     turned-on zero s g o x = absurd (omega (arith, g .left, g .countable))
@@ -303,8 +300,8 @@ pub accepted-goes : (c : Picked) → c .verdict ≡ Accepted → ltb 0 (c .searc
 accepted-goes c e = sym (ap (λ (v : Verdict). goingBy v (c .search .opened)) e)
 
 -- the pick that a turn makes is the definition's: place k is that of the largest bound of the first n, which are the open ones
-module _ (weights profits : List ℕ) (ask : Ask) (c : Picked) (s : Search) (n k : ℕ) (list : List Place) (nodes edges : List ℕ) (scratch : List Place) where
-  pub picks-largest : s ≡ c .search → n ≡ s .opened → k ≡ largest (take n list) → (r : Picked) (ns es : List ℕ) (after left : List Place)
+module _ (weights profits : List ℕ) (ask : Ask) (c : Picked) (s : Search) (n k : ℕ) (list : List Place) (nodes edges scratch : List ℕ) where
+  pub picks-largest : s ≡ c .search → n ≡ s .opened → k ≡ largest (take n list) → (r : Picked) (ns es : List ℕ) (after : List Place) (left : List ℕ)
       → Picks (pick (askedIn weights profits ask k) (searchOf s) (heldIn list nodes edges scratch)) r ns es after left
       → Picks (pick (askedFor (problemOf weights profits (ask .page) (ask .width)) (kindOf (ask .kind)) (searchOf (c .search)) list) (searchOf (c .search)) (heldIn list nodes edges scratch)) r ns es after left
   unfolding askedFor openIn

@@ -9,8 +9,8 @@ use lib.ListN.{length, drop, length-append, length-drop}
 use Rattle.words.specs.I64.{i64Min}
 use Rattle.diagram.specs.After4.{CutsetKind}
 use Rattle.calls.specs.Asked.{Problem}
+use Rattle.calls.specs.Compile.{Lent, roomsOf}
 use Rattle.searches.specs.Places.{Place, rootPlace, overPlaces}
-use Rattle.searches.specs.Compile.{Lent, roomsOf}
 use Rattle.searches.specs.Search.{Search, openIn}
 use Rattle.searches.specs.Start as Start
 use Rattle.searches.specs.Start.{start, startRefusal}

@@ -3,10 +3,12 @@ use mathlib.Core.Path.{_≡_}
 use mathlib.Core.List.{List}
 use lib.ListN.{length}
 use Rattle.diagram.specs.After4.{CutsetKind}
+use Rattle.layout.specs.Table.{over}
 use Rattle.calls.specs.Asked.{Problem}
+use Rattle.calls.specs.Compile.{Lent, roomsOf}
+use Rattle.call_laws.specs.Statements.{Words, SameLengths}
 use Rattle.searches.specs.Places.{Place, overPlaces}
-use Rattle.searches.specs.Compile.{Lent, Effect, roomsOf}
-use Rattle.searches.specs.Pick.{Held, lentAfter}
+use Rattle.searches.specs.Pick.{Held}
 use Rattle.jobs.specs.Text.{Job}
 use Rattle.jobs.specs.Run.{runOf, run}
 use Rattle.jobs.specs.Left.{runLeaves}
@@ -21,18 +23,21 @@ OneJobRun = (j : Job) (l m : Lent) (list other : List Place) → roomsOf l ≡ r
 
 pub record SameSizes (h k : Held) : Type 0 where
   pub list : length (h .list) ≡ length (k .list)
-  pub nodes : length (h .lent .nodes) ≡ length (k .lent .nodes)
-  pub edges : length (h .lent .edges) ≡ length (k .lent .edges)
-  pub records : length (h .lent .records) ≡ length (k .lent .records)
+  pub lent : SameLengths (h .lent) (k .lent)
 
--- lists and tables with those places and rows written from their starts on
-abbrev pub writtenOver : List Place → Effect → Held → Held
-writtenOver ps w h = record { list = overPlaces ps (h .list); lent = lentAfter w (h .lent) }
+-- lists and tables with those places and words written from their starts on
+abbrev pub writtenOver : List Place → Words → Held → Held
+writtenOver ps w h =
+    let l = h .lent in
+    record {
+      list = overPlaces ps (h .list);
+      lent = record { nodes = over (w .nodes) (l .nodes); edges = over (w .edges) (l .edges); records = over (w .records) (l .records) };
+    }
 
 -- d and e are what h and k have become: the same is written over both
 pub record LeftAlike (d e h k : Held) : Type 0 where
   pub placed : List Place
-  pub written : Effect
+  pub written : Words
   pub first : d ≡ writtenOver placed written h
   pub second : e ≡ writtenOver placed written k
 

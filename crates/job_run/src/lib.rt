@@ -8,7 +8,8 @@ ghost use Rattle.cutset.specs.Whole.{kindOf};
 ghost use Rattle.searches.specs.Pick.{pick};
 ghost use Rattle.search.specs.Asked.{problemOf};
 ghost use Rattle.search.specs.Held.{searchOf};
-ghost use Rattle.pick.specs.Picks.{heldIn, Picks};
+ghost use Rattle.pick_steps.specs.Tried.{heldIn};
+ghost use Rattle.pick.specs.Picks.{Picks};
 ghost use Rattle.jobs.specs.Run.{largest, askedFor};
 ghost use Rattle.jobs.specs.Left.{leftOf};
 ghost use Rattle.job_run.specs.Runs.{larger, pickedOf, isGoing, leftIn};
@@ -51,15 +52,15 @@ fn turn(
     nodes: &mut [u64],
     edges: &mut [u64],
     list: &mut [Record],
-    scratch: &mut [Record],
+    scratch: &mut [u64],
     ask: Ask,
     p: Picked,
 ) -> Picked
     requires { ⌜ p .search .opened ≤ length (now list) ⌝ }
     ensures { λ r.
         ⌜ Picks
-        (pick (askedFor (problemOf (now (weights .entry)) (now (profits .entry)) (ask .page) (ask .width)) (kindOf (ask .kind)) (searchOf (p .search)) (places (now (list .entry)))) (searchOf (p .search)) (heldIn (places (now (list .entry))) (now (nodes .entry)) (now (edges .entry)) (places (now (scratch .entry)))))
-        r (now (nodes .exit)) (now (edges .exit)) (places (now (list .exit))) (places (now (scratch .exit))) ⌝ }
+        (pick (askedFor (problemOf (now (weights .entry)) (now (profits .entry)) (ask .page) (ask .width)) (kindOf (ask .kind)) (searchOf (p .search)) (places (now (list .entry)))) (searchOf (p .search)) (heldIn (places (now (list .entry))) (now (nodes .entry)) (now (edges .entry)) (now (scratch .entry))))
+        r (now (nodes .exit)) (now (edges .exit)) (places (now (list .exit))) (now (scratch .exit)) ⌝ }
 {
     let s = search::search_of(p);
     let n = search::opened_of(s);
@@ -108,13 +109,13 @@ pub fn run(
     nodes: &mut [u64],
     edges: &mut [u64],
     list: &mut [Record],
-    scratch: &mut [Record],
+    scratch: &mut [u64],
     ask: Ask,
 ) -> Picked
     ensures { λ p.
-        ⌜ leftIn p (heldIn (places (now (list .exit))) (now (nodes .exit)) (now (edges .exit)) (places (now (scratch .exit)))) ≡ leftOf
+        ⌜ leftIn p (heldIn (places (now (list .exit))) (now (nodes .exit)) (now (edges .exit)) (now (scratch .exit))) ≡ leftOf
         (problemOf (now (weights .entry)) (now (profits .entry)) (ask .page) (ask .width)) (kindOf (ask .kind))
-        (heldIn (places (now (list .entry))) (now (nodes .entry)) (now (edges .entry)) (places (now (scratch .entry)))) ⌝ }
+        (heldIn (places (now (list .entry))) (now (nodes .entry)) (now (edges .entry)) (now (scratch .entry))) ⌝ }
 {
     let bound = least();
     let a = search::start(weights, profits, ask, bound, list);

@@ -1,13 +1,13 @@
 -- 'Case R, whole', and the refusals that a job's run can meet, from a job to its answer's bytes, and to what is left in lists and tables; the limits of job text; which record is picked.
 use mathlib.Core.Path.{_≡_}
-use mathlib.Core.List.{List, [], _∷_, List·Memᴰ}
+use mathlib.Core.List.{List, [], _∷_, _++_, List·Memᴰ}
 use Prim.Native.Nat.{ℕ, _≤_}
 use lib.IntN.{pos, negsuc}
 use lib.ListN.{length, replicate}
 use Rattle.knapsack.specs.Items.{Item}
 use Rattle.diagram.specs.After4.{lastExactLayer, frontier}
+use Rattle.calls.specs.Compile.{Lent}
 use Rattle.searches.specs.Places.{Place}
-use Rattle.searches.specs.Compile.{Lent}
 use Rattle.searches.specs.Pick.{Held}
 use Rattle.jobs.specs.Text.{Job, textOf, IsText}
 use Rattle.jobs.specs.Run.{largest, run}
@@ -24,8 +24,9 @@ R = record { page = 2; width = 1; kind = lastExactLayer; items = block 1 4 ∷ b
 abbrev old : Place
 old = record { capacity = 9; value = pos 9; bound = pos 9; depth = 9; bytes = replicate 64 9 }
 
+-- tables and a scratch list of so many words
 abbrev lend : ℕ → ℕ → ℕ → Lent
-lend nodes edges scratch = record { nodes = replicate nodes 7; edges = replicate edges 7; records = replicate scratch old }
+lend nodes edges scratch = record { nodes = replicate nodes 7; edges = replicate edges 7; records = replicate scratch 7 }
 
 abbrev answer : Job → Lent → ℕ → List ℕ
 answer j l places = answerOf 3 (run j l (replicate places old))
@@ -35,9 +36,9 @@ CaseR =
     -- Case R: its text
     (textOf R ≡ 99 ∷ 97 ∷ 112 ∷ 9 ∷ 50 ∷ 10 ∷ 119 ∷ 105 ∷ 100 ∷ 116 ∷ 104 ∷ 9 ∷ 49 ∷ 10 ∷ 99 ∷ 117 ∷ 116 ∷ 9 ∷ 108 ∷ 101 ∷ 108 ∷ 10 ∷ 105 ∷ 116 ∷ 101 ∷ 109 ∷ 9 ∷ 49 ∷ 9 ∷ 52 ∷ 10 ∷ 105 ∷ 116 ∷ 101 ∷ 109 ∷ 9 ∷ 49 ∷ 9 ∷ 51 ∷ 10 ∷ 105 ∷ 116 ∷ 101 ∷ 109 ∷ 9 ∷ 49 ∷ 9 ∷ 50 ∷ 10 ∷ [])
     -- Case R: best 7, items 0 and 1, picks 3
-    × (answer R (lend 72 60 2) 2 ≡ 98 ∷ 101 ∷ 115 ∷ 116 ∷ 9 ∷ 55 ∷ 10 ∷ 105 ∷ 116 ∷ 101 ∷ 109 ∷ 9 ∷ 48 ∷ 9 ∷ 49 ∷ 10 ∷ 105 ∷ 116 ∷ 101 ∷ 109 ∷ 9 ∷ 49 ∷ 9 ∷ 49 ∷ 10 ∷ 105 ∷ 116 ∷ 101 ∷ 109 ∷ 9 ∷ 50 ∷ 9 ∷ 48 ∷ 10 ∷ 112 ∷ 105 ∷ 99 ∷ 107 ∷ 115 ∷ 9 ∷ 51 ∷ 10 ∷ [])
-    -- Case R: a scratch place short, and no place for the root
-    × ((answer R (lend 72 60 1) 2 ≡ 114 ∷ 101 ∷ 102 ∷ 117 ∷ 115 ∷ 101 ∷ 100 ∷ 9 ∷ 49 ∷ 51 ∷ 10 ∷ []) × (answer R (lend 72 60 2) 0 ≡ 114 ∷ 101 ∷ 102 ∷ 117 ∷ 115 ∷ 101 ∷ 100 ∷ 9 ∷ 49 ∷ 51 ∷ 10 ∷ []))
+    × (answer R (lend 72 60 136) 2 ≡ 98 ∷ 101 ∷ 115 ∷ 116 ∷ 9 ∷ 55 ∷ 10 ∷ 105 ∷ 116 ∷ 101 ∷ 109 ∷ 9 ∷ 48 ∷ 9 ∷ 49 ∷ 10 ∷ 105 ∷ 116 ∷ 101 ∷ 109 ∷ 9 ∷ 49 ∷ 9 ∷ 49 ∷ 10 ∷ 105 ∷ 116 ∷ 101 ∷ 109 ∷ 9 ∷ 50 ∷ 9 ∷ 48 ∷ 10 ∷ 112 ∷ 105 ∷ 99 ∷ 107 ∷ 115 ∷ 9 ∷ 51 ∷ 10 ∷ [])
+    -- Case R: a word of the scratch list short, and no place for the root
+    × ((answer R (lend 72 60 135) 2 ≡ 114 ∷ 101 ∷ 102 ∷ 117 ∷ 115 ∷ 101 ∷ 100 ∷ 9 ∷ 49 ∷ 51 ∷ 10 ∷ []) × (answer R (lend 72 60 136) 0 ≡ 114 ∷ 101 ∷ 102 ∷ 117 ∷ 115 ∷ 101 ∷ 100 ∷ 9 ∷ 49 ∷ 51 ∷ 10 ∷ []))
 
 -- a job of one item with the frontier
 abbrev asked : ℕ → ℕ → ℕ → ℕ → Job
@@ -85,13 +86,13 @@ leaves j l places = leftBy j (lentFor l places) .held
 abbrev pub CaseRLeaves : Type 0
 CaseRLeaves =
     -- Case R: the list; the scratch list; the edge table and the node table
-    (leaves R (lend 72 60 2) 2 .list ≡ place 2 0 5 1 (replicate 64 0) ∷ place 2 0 5 1 (replicate 64 0) ∷ [])
-    × (leaves R (lend 72 60 2) 2 .lent .records ≡ place 1 4 9 1 (1 ∷ replicate 63 0) ∷ place 2 0 5 1 (replicate 64 0) ∷ [])
-    × (leaves R (lend 72 60 2) 2 .lent .edges ≡ 0 ∷ 1 ∷ 3 ∷ 3 ∷ 0 ∷ 0 ∷ 2 ∷ 2 ∷ 0 ∷ 0 ∷ 2 ∷ 3 ∷ 5 ∷ 2 ∷ 0 ∷ 2 ∷ 4 ∷ 4 ∷ 0 ∷ 0 ∷ 1 ∷ 3 ∷ 4 ∷ 0 ∷ 3 ∷ 1 ∷ 3 ∷ 2 ∷ 0 ∷ 3 ∷ 1 ∷ 6 ∷ 3 ∷ 3 ∷ 0 ∷ 1 ∷ 6 ∷ 2 ∷ 0 ∷ 7 ∷ 2 ∷ 6 ∷ 3 ∷ 3 ∷ 8 ∷ 2 ∷ 6 ∷ 2 ∷ 0 ∷ 9 ∷ 6 ∷ 7 ∷ 5 ∷ 2 ∷ 0 ∷ 6 ∷ 8 ∷ 4 ∷ 0 ∷ 0 ∷ [])
-    × (leaves R (lend 72 60 2) 2 .lent .nodes ≡ 1 ∷ 1 ∷ 9223372036854775812 ∷ 0 ∷ 0 ∷ 0 ∷ 9223372036854775813 ∷ 1 ∷ 0 ∷ 2 ∷ 9223372036854775815 ∷ 0 ∷ 1 ∷ 1 ∷ 9223372036854775808 ∷ 1 ∷ 1 ∷ 2 ∷ 9223372036854775812 ∷ 0 ∷ 2 ∷ 2 ∷ 9223372036854775810 ∷ 1 ∷ 0 ∷ 3 ∷ 9223372036854775815 ∷ 0 ∷ 5 ∷ 5 ∷ 18446744073709551615 ∷ 1 ∷ 1 ∷ 3 ∷ 9223372036854775812 ∷ 0 ∷ 4 ∷ 4 ∷ 18446744073709551615 ∷ 1 ∷ 0 ∷ 2 ∷ 9223372036854775815 ∷ 0 ∷ 5 ∷ 5 ∷ 18446744073709551615 ∷ 17 ∷ 2 ∷ 2 ∷ 9223372036854775815 ∷ 9223372036854775810 ∷ 7 ∷ 10 ∷ 9223372036854775810 ∷ 6 ∷ 1 ∷ 3 ∷ 9223372036854775817 ∷ 9223372036854775808 ∷ 11 ∷ 11 ∷ 18446744073709551615 ∷ 4 ∷ 2 ∷ 3 ∷ 9223372036854775815 ∷ 9223372036854775808 ∷ 12 ∷ 12 ∷ 18446744073709551615 ∷ 4 ∷ [])
-    -- a scratch place short: the list keeps the root, the scratch list what it held, the edge table holds the finished diagram
-    × (leaves R (lend 72 60 1) 2 .list ≡ place 2 0 9223372036854775807 0 (replicate 64 0) ∷ old ∷ [])
-    × (leaves R (lend 72 60 1) 2 .lent .records ≡ old ∷ [])
-    × (leaves R (lend 72 60 1) 2 .lent .edges ≡ 0 ∷ 1 ∷ 1 ∷ 4 ∷ 0 ∷ 0 ∷ 2 ∷ 0 ∷ 0 ∷ 0 ∷ 2 ∷ 3 ∷ 3 ∷ 3 ∷ 0 ∷ 2 ∷ 4 ∷ 2 ∷ 0 ∷ 0 ∷ 1 ∷ 5 ∷ 3 ∷ 3 ∷ 0 ∷ 1 ∷ 3 ∷ 2 ∷ 0 ∷ 3 ∷ 1 ∷ 6 ∷ 3 ∷ 3 ∷ 0 ∷ 1 ∷ 6 ∷ 2 ∷ 0 ∷ 7 ∷ 2 ∷ 6 ∷ 3 ∷ 3 ∷ 8 ∷ 2 ∷ 6 ∷ 2 ∷ 0 ∷ 9 ∷ 6 ∷ 7 ∷ 5 ∷ 2 ∷ 0 ∷ 6 ∷ 8 ∷ 4 ∷ 0 ∷ 0 ∷ [])
+    (leaves R (lend 72 60 136) 2 .list ≡ place 2 0 5 1 (replicate 64 0) ∷ place 2 0 5 1 (replicate 64 0) ∷ [])
+    × (leaves R (lend 72 60 136) 2 .lent .records ≡ (1 ∷ 9223372036854775812 ∷ 9223372036854775817 ∷ 1 ∷ 1 ∷ replicate 63 0) ++ (2 ∷ 9223372036854775808 ∷ 9223372036854775813 ∷ 1 ∷ replicate 64 0))
+    × (leaves R (lend 72 60 136) 2 .lent .edges ≡ 0 ∷ 1 ∷ 3 ∷ 3 ∷ 0 ∷ 0 ∷ 2 ∷ 2 ∷ 0 ∷ 0 ∷ 2 ∷ 3 ∷ 5 ∷ 2 ∷ 0 ∷ 2 ∷ 4 ∷ 4 ∷ 0 ∷ 0 ∷ 1 ∷ 3 ∷ 4 ∷ 0 ∷ 3 ∷ 1 ∷ 3 ∷ 2 ∷ 0 ∷ 3 ∷ 1 ∷ 6 ∷ 3 ∷ 3 ∷ 0 ∷ 1 ∷ 6 ∷ 2 ∷ 0 ∷ 7 ∷ 2 ∷ 6 ∷ 3 ∷ 3 ∷ 8 ∷ 2 ∷ 6 ∷ 2 ∷ 0 ∷ 9 ∷ 6 ∷ 7 ∷ 5 ∷ 2 ∷ 0 ∷ 6 ∷ 8 ∷ 4 ∷ 0 ∷ 0 ∷ [])
+    × (leaves R (lend 72 60 136) 2 .lent .nodes ≡ 1 ∷ 1 ∷ 9223372036854775812 ∷ 0 ∷ 0 ∷ 0 ∷ 9223372036854775813 ∷ 1 ∷ 0 ∷ 2 ∷ 9223372036854775815 ∷ 0 ∷ 1 ∷ 1 ∷ 9223372036854775808 ∷ 1 ∷ 1 ∷ 2 ∷ 9223372036854775812 ∷ 0 ∷ 2 ∷ 2 ∷ 9223372036854775810 ∷ 1 ∷ 0 ∷ 3 ∷ 9223372036854775815 ∷ 0 ∷ 5 ∷ 5 ∷ 18446744073709551615 ∷ 1 ∷ 1 ∷ 3 ∷ 9223372036854775812 ∷ 0 ∷ 4 ∷ 4 ∷ 18446744073709551615 ∷ 1 ∷ 0 ∷ 2 ∷ 9223372036854775815 ∷ 0 ∷ 5 ∷ 5 ∷ 18446744073709551615 ∷ 17 ∷ 2 ∷ 2 ∷ 9223372036854775815 ∷ 9223372036854775810 ∷ 7 ∷ 10 ∷ 9223372036854775810 ∷ 6 ∷ 1 ∷ 3 ∷ 9223372036854775817 ∷ 9223372036854775808 ∷ 11 ∷ 11 ∷ 18446744073709551615 ∷ 4 ∷ 2 ∷ 3 ∷ 9223372036854775815 ∷ 9223372036854775808 ∷ 12 ∷ 12 ∷ 18446744073709551615 ∷ 4 ∷ [])
+    -- a word of the scratch list short: the list keeps the root, the scratch list what it held, the edge table holds the finished diagram
+    × (leaves R (lend 72 60 135) 2 .list ≡ place 2 0 9223372036854775807 0 (replicate 64 0) ∷ old ∷ [])
+    × (leaves R (lend 72 60 135) 2 .lent .records ≡ replicate 135 7)
+    × (leaves R (lend 72 60 135) 2 .lent .edges ≡ 0 ∷ 1 ∷ 1 ∷ 4 ∷ 0 ∷ 0 ∷ 2 ∷ 0 ∷ 0 ∷ 0 ∷ 2 ∷ 3 ∷ 3 ∷ 3 ∷ 0 ∷ 2 ∷ 4 ∷ 2 ∷ 0 ∷ 0 ∷ 1 ∷ 5 ∷ 3 ∷ 3 ∷ 0 ∷ 1 ∷ 3 ∷ 2 ∷ 0 ∷ 3 ∷ 1 ∷ 6 ∷ 3 ∷ 3 ∷ 0 ∷ 1 ∷ 6 ∷ 2 ∷ 0 ∷ 7 ∷ 2 ∷ 6 ∷ 3 ∷ 3 ∷ 8 ∷ 2 ∷ 6 ∷ 2 ∷ 0 ∷ 9 ∷ 6 ∷ 7 ∷ 5 ∷ 2 ∷ 0 ∷ 6 ∷ 8 ∷ 4 ∷ 0 ∷ 0 ∷ [])
     -- no place for the root: all is as it was
-    × (leaves R (lend 72 60 2) 0 ≡ lentFor (lend 72 60 2) 0)
+    × (leaves R (lend 72 60 136) 0 ≡ lentFor (lend 72 60 136) 0)

@@ -9,11 +9,11 @@ use Rattle.words.specs.I64.{i64Min}
 use Rattle.knapsack.specs.Items.{Item}
 use Rattle.diagram.specs.After4.{CutsetKind}
 use Rattle.calls.specs.Asked.{Problem}
+use Rattle.calls.specs.Compile.{Lent}
 use Rattle.searches.specs.Places.{Place}
 use Rattle.searches.specs.Search.{Search, openIn}
 use Rattle.searches.specs.Start as Start
 use Rattle.searches.specs.Start.{start}
-use Rattle.searches.specs.Compile.{Lent}
 use Rattle.searches.specs.Pick as Pick
 use Rattle.searches.specs.Pick.{Asked, pick}
 use Rattle.jobs.specs.Text.{Job}

@@ -17,7 +17,7 @@ search-of-answer : (a : Pick.Picked) (s : Def.Search) → searchOf (pickedFrom a
 search-of-answer (refusedBy n) s = refl
 search-of-answer accepted s = refl
 
-pub picks-in : (d : Pick.After) (p : Picked) (ns es : List ℕ) (list scratch : List Place) → Picks d p ns es list scratch → (v : Verdict) (s : Search) → v ≡ p .verdict → s ≡ p .search → PicksIn d v s ns es list scratch
+pub picks-in : (d : Pick.After) (p : Picked) (ns es : List ℕ) (list : List Place) (scratch : List ℕ) → Picks d p ns es list scratch → (v : Verdict) (s : Search) → v ≡ p .verdict → s ≡ p .search → PicksIn d v s ns es list scratch
 picks-in d p ns es list scratch h v s e g =
     record {
       answered = e ∙ ap (λ (x : Picked). x .verdict) (h .answered);

@@ -1,7 +1,5 @@
--- Laws of a pick's compile and of its end, and that its steps make the definition's pick.
-pub mod Compiling
-pub mod Ending
+-- Laws of the end of a pick and of a pick over a lent search, and what its walks by hand share.
 pub mod InPlace
+pub mod Parts
 pub mod Replacing
 pub mod Rows
-pub mod Whole

@@ -28,14 +28,14 @@ use Rattle.search.proofs.Started.Laws as B′
 use Rattle.search.proofs.Picked as P
 use Rattle.search.proofs.Picked.Laws as P′
 use Rattle.search.specs.declared.Ask.{Ask}
-use Rattle.compile_records.specs.declared.Query.{Query}
-use Rattle.pick_steps.specs.declared.Tally.{Tally}
+use Rattle.query.specs.declared.Query.{Query}
+use Rattle.pick_steps.specs.declared.Change.{Change}
 use Rattle.search.proofs.Ask as K
 use Rattle.search.proofs.Ask.Laws as K′
-use Rattle.compile_records.proofs.Query as Q
-use Rattle.compile_records.proofs.Query.Laws as Q′
-use Rattle.pick_steps.proofs.Tally as Y
-use Rattle.pick_steps.proofs.Tally.Laws as Y′
+use Rattle.query.proofs.Query as Q
+use Rattle.query.proofs.Query.Laws as Q′
+use Rattle.pick_steps.proofs.Change as C
+use Rattle.pick_steps.proofs.Change.Laws as C′
 
 pub search-value : Search → Val
 search-value x = LL.val S.the-type S′.the-laws x
@@ -60,8 +60,8 @@ module _ {M : Type 1} (𝓤 : URA M) (H : Heap 𝓤) (A : Atoms 𝓤) where
   pub answer-makes : Makes 𝓤 H A An.the-row (Is An.the-row)
   answer-makes = LL.makes An.the-type An′.the-plain 𝓤 H A
 
-  pub tally-makes : Makes 𝓤 H A Y.the-row (Is Y.the-row)
-  tally-makes = LL.makes Y.the-type Y′.the-plain 𝓤 H A
+  pub change-makes : Makes 𝓤 H A C.the-row (Is C.the-row)
+  change-makes = LL.makes C.the-type C′.the-plain 𝓤 H A
 
   pub search-makes : Makes 𝓤 H A S.the-row (Is S.the-row)
   search-makes = LL.makes S.the-type S′.the-plain 𝓤 H A
@@ -88,8 +88,8 @@ module _ {M : Type 1} (𝓤 : URA M) (H : Heap 𝓤) (A : Atoms 𝓤) where
     pub answer-typed : (x : Answer) (v : Val) → Is An.the-row x (v ∷ []) → Holds (hasTy An′.mir v) × WT v
     answer-typed x v is = LL.lawful An.the-type An′.the-laws 𝓤 H A W .typed x (v ∷ []) is .0
 
-    pub tally-typed : (x : Tally) (v : Val) → Is Y.the-row x (v ∷ []) → Holds (hasTy Y′.mir v) × WT v
-    tally-typed x v is = LL.lawful Y.the-type Y′.the-laws 𝓤 H A W .typed x (v ∷ []) is .0
+    pub change-typed : (x : Change) (v : Val) → Is C.the-row x (v ∷ []) → Holds (hasTy C′.mir v) × WT v
+    change-typed x v is = LL.lawful C.the-type C′.the-laws 𝓤 H A W .typed x (v ∷ []) is .0
 
     pub search-typed : (x : Search) (v : Val) → Is S.the-row x (v ∷ []) → Holds (hasTy S′.mir v) × WT v
     search-typed x v is = LL.lawful S.the-type S′.the-laws 𝓤 H A W .typed x (v ∷ []) is .0

@@ -1,4 +1,3 @@
--- What the calls of a pick over lent lists make, and its promise.
-pub mod Compiled
+-- The end of a pick, and what a pick over lent lists promises.
 pub mod Settled
 pub mod Picks

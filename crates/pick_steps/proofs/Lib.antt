@@ -2,3 +2,5 @@
 pub mod Numbers
 pub mod Steps
 pub mod Tallies
+pub mod Ways
+pub mod Whole

@@ -1,7 +1,7 @@
 -- A pick's answer, from its tally and the number of records that it appends.
 use mathlib.Core.Path.{_≡_}
 use mathlib.Core.Bool.{Bool, true, false}
-use Prim.Native.Nat.{ℕ, _+_, _-_, _^_, _<_, _≤_}
+use Prim.Native.Nat.{ℕ, _+_, _-_, _<_, _≤_}
 use lib.Dec.{leb}
 use Rattle.refusals.specs.declared.Verdict.{Verdict}
 use Rattle.refusals.specs.declared.Verdict.the-variants.{Accepted, Refused}
@@ -14,10 +14,8 @@ use Rattle.search.specs.Answered.{pickedFrom}
 use Rattle.pick_steps.specs.declared.Tally.{Tally}
 
 -- what an accepted tally asks of the counts
-pub record Concluding (s : Search) (t : Tally) (k places : ℕ) : Type 0 where
-  pub k-small : k < 2 ^ 60
-  pub places-few : places < 2 ^ 60
-  pub some : t .verdict ≡ Accepted → (0 < s .opened) × ((s .opened ≤ places) × (t .search .picks < mostPicks))
+abbrev pub Concluding : Search → Tally → ℕ → Type 0
+Concluding s t places = t .verdict ≡ Accepted → (0 < s .opened) × ((s .opened ≤ places) × (t .search .picks < mostPicks))
 
 -- 13 'the open list after the pick would outgrow its room'
 abbrev pub concludeIf : Bool → Search → Tally → ℕ → Picked

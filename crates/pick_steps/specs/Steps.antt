@@ -7,7 +7,7 @@ use lib.Signed.{ltZ}
 use Rattle.diagram.specs.Record.{padded}
 use Rattle.calls.specs.Asked.{Problem, Given}
 use Rattle.calls.specs.Refusals.{firstOf, problemChecks, recordChecks}
-use Rattle.calls.specs.Compile.{Compiled}
+use Rattle.calls.specs.Compile.{Request, Lent, Compiled, compiled, After, compile}
 use Rattle.refusals.specs.declared.Verdict.{Verdict}
 use Rattle.refusals.specs.declared.Verdict.the-variants.{Accepted, Refused}
 use Rattle.grow.specs.declared.Mode.the-variants.{Relaxed}
@@ -18,7 +18,7 @@ use Rattle.searches.specs.Pick.{pickCheck, better}
 use Rattle.search.specs.declared.Search.{Search}
 use Rattle.search.specs.Held.{searchOf, searchFrom, optionOf}
 use Rattle.search.specs.declared.Ask.{Ask}
-use Rattle.compile_records.specs.declared.Query.{Query}
+use Rattle.query.specs.declared.Query.{Query}
 use Rattle.pick_steps.specs.declared.Tally.{Tally}
 
 -- the numbers before anything is written, the record in the place being g: 1 to 6, 14, 7 to 9
@@ -48,6 +48,11 @@ idling =
       drainedCount = 0;
       layers = [];
     }
+
+-- the definition's compile if the record is wanted, else nothing
+abbrev pub compileIf : Bool → Request → Lent → After
+compileIf true q l = compile q l
+compileIf false q l = record { answer = compiled idling; lent = l }
 
 abbrev pub refusing : ℕ → Search → Tally
 refusing n s = record { verdict = Refused n; search = s; drained = 0 }

@@ -4,14 +4,24 @@ use mathlib.Core.List.{List, [], _∷_, _++_, map, append-assoc}
 use Prim.Native.Nat.{ℕ, zero, suc, _+_, _-_, _*_, _%_, _<_, _≤_}
 use native.Mathlib.Nat.{suc-mul, le-of-suc-le-suc, not-suc-le-zero}
 use native.Mathlib.Omega.{arith}
-use lib.ListN.{length, getD, take, drop, replicate}
-use lib.Seq.{getD-drop, drop-drop, take-at, drop-append-add}
+use lib.ListN.{length, getD, take, drop, replicate, length-map}
+use lib.Seq.{getD-drop, drop-drop, take-at, take-all, take-suc, drop-append-add}
 use Rattle.diagram.specs.Record.{Record as Written, padded}
 use Rattle.layout.specs.Table.{wordsOf, over}
 use Rattle.layout.specs.Records.{recordWords, encodeRecord, recordTable, Roomy}
 use Rattle.layout.proofs.Records.{padded-length, record-length}
-use Rattle.searches.specs.Places.{placeOf, noPlace}
-use Rattle.records.specs.Structs.{placeFrom, bytesIn, recordIn, Bytes, BytePaths}
+use Rattle.searches.specs.Places.{Place, placeOf, noPlace}
+use Rattle.records.specs.Structs.{placeFrom, bytesIn, recordIn, placesIn}
+
+-- each number of the list is a byte
+abbrev pub Bytes : List ℕ → Type 0
+Bytes [] = Unit {0}
+Bytes (b ∷ bs) = (b < 256) × Bytes bs
+
+-- each record's path is bytes
+abbrev pub BytePaths : List Written → Type 0
+BytePaths [] = Unit {0}
+BytePaths (r ∷ rs) = Bytes (r .path) × BytePaths rs
 
 abbrev byte : ℕ → ℕ
 byte w = w % 256
@@ -71,8 +81,20 @@ place-in (r ∷ rs) zero h = refl
 place-in (r ∷ rs) (suc i) h = place-in rs i (le-of-suc-le-suc h)
 
 -- record i of the words is record i of those that were written
-pub record-is : (rs : List Written) (old t : List ℕ) (i : ℕ) → t ≡ over (recordTable rs) old → Roomy rs → BytePaths rs → i < length rs → placeFrom (recordIn t i) ≡ getD (map placeOf rs) i noPlace
+record-is : (rs : List Written) (old t : List ℕ) (i : ℕ) → t ≡ over (recordTable rs) old → Roomy rs → BytePaths rs → i < length rs → placeFrom (recordIn t i) ≡ getD (map placeOf rs) i noPlace
 unfolding over
 record-is rs old t i e roomy bytes h =
     let p = path-of rs i roomy bytes h in
     record-here t _ i (getD rs i noWritten) (ap (drop (i * recordWords)) e ∙ words-from rs (drop (length (recordTable rs)) old) i roomy h) (p .0) (p .1) ∙ place-in rs i h
+
+-- so the first j of the words are the first j of those
+first-read : (rs : List Written) (old : List ℕ) (j : ℕ) → Roomy rs → BytePaths rs → j ≤ length rs → placesIn j (over (recordTable rs) old) ≡ take j (map placeOf rs)
+unfolding placesIn
+first-read rs old zero roomy bytes h = refl
+first-read rs old (suc j) roomy bytes h =
+    ap₂ (λ (ps : List Place) (p : Place). ps ++ (p ∷ [])) (first-read rs old j roomy bytes (omega arith)) (record-is rs old (over (recordTable rs) old) j refl roomy bytes h)
+    ∙ sym (take-suc (map placeOf rs) j noPlace (omega (arith, length-map rs placeOf)))
+
+-- Records that were written as words are read as the same records.
+pub all-read : (rs : List Written) (old : List ℕ) → Roomy rs → BytePaths rs → placesIn (length rs) (over (recordTable rs) old) ≡ map placeOf rs
+all-read rs old roomy bytes = first-read rs old (length rs) roomy bytes (omega arith) ∙ take-all (length rs) (map placeOf rs) (omega (arith, length-map rs placeOf))

@@ -1,10 +1,9 @@
 -- Which place of the definition's lists a record struct of the code stands for, and which record struct stands in flat words.
-use mathlib.Core.List.{List, [], _∷_, map}
-use Prim.Native.Nat.{ℕ, _+_, _*_, _%_, _<_}
+use mathlib.Core.List.{List, [], _∷_, _++_, map}
+use Prim.Native.Nat.{ℕ, zero, suc, _+_, _*_, _%_}
 use lib.IntN.{pos}
 use lib.ListN.{getD, take, drop, replicate}
 use Rattle.words.specs.I64.{number}
-use Rattle.diagram.specs.Record.{Record as Written}
 use Rattle.layout.specs.Records.{recordWords}
 use Rattle.searches.specs.Places.{Place}
 use Rattle.records.specs.declared.Record.{Record}
@@ -36,12 +35,7 @@ recordIn t i =
       path = bytesIn t (i * recordWords + 4);
     }
 
--- each number of the list is a byte
-abbrev pub Bytes : List ℕ → Type 0
-Bytes [] = Unit {0}
-Bytes (b ∷ bs) = (b < 256) × Bytes bs
-
--- each record's path is bytes
-abbrev pub BytePaths : List Written → Type 0
-BytePaths [] = Unit {0}
-BytePaths (r ∷ rs) = Bytes (r .path) × BytePaths rs
+-- the first n records of a flat list, as places
+unfoldable pub placesIn : ℕ → List ℕ → List Place
+placesIn zero t = []
+placesIn (suc n) t = placesIn n t ++ (placeFrom (recordIn t n) ∷ [])

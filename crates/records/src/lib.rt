@@ -1,12 +1,11 @@
-// Records as structs in a lent list: one got from a place, one removed and others moved down, those of another list appended, and one taken from flat words.
+// Records as structs in a lent list: one got from a place, one removed and others moved down, those of a flat list of words appended; and such a list read.
 ghost use mathlib.Core.Path.{_≡_};
-ghost use mathlib.Core.List.{[], _∷_};
-ghost use Prim.Native.Nat.{_+_, _*_, _^_, _<_, _≤_};
-ghost use lib.ListN.{length, getD, take};
+ghost use Prim.Native.Nat.{_+_, _*_, _<_, _≤_};
+ghost use lib.ListN.{length, getD};
 ghost use lib.Signed.{ltZ};
 ghost use Rattle.layout.specs.Records.{recordWords};
 ghost use Rattle.searches.specs.Search.{aboveBest};
-ghost use Rattle.records.specs.Structs.{noRecord, placeFrom, places, recordIn, bytesIn};
+ghost use Rattle.records.specs.Structs.{noRecord, places, bytesIn, recordIn, placesIn};
 ghost use Rattle.records.specs.Moves.{Removed, Appended};
 use rows::PATH_ROOM;
 use rows::RECORD_WORDS;
@@ -53,54 +52,6 @@ pub fn remove(rs: &mut [Record], at: usize, n: usize)
     }
 }
 
-// Whether a record's bound is strictly above the best value.
-fn above(r: Record, best: i64) -> bool
-    ensures { λ b. ⌜ b ≡ ltZ best (r .bound) ⌝ }
-{
-    let bound = r.bound;
-    best < bound
-}
-
-// One more than k if the record is above the best value, else k. No list has 2^60 records.
-fn counted(k: usize, r: Record, best: i64) -> usize
-    requires { ⌜ k < 2 ^ 60 ⌝ }
-    ensures { λ m. ⌜ m ≡ k + length (aboveBest best (placeFrom r ∷ [])) ⌝ }
-{
-    if above(r, best) { k + 1 } else { k }
-}
-
-// How many of the first n records have a bound strictly above the best value.
-pub fn count_above(rs: &[Record], n: usize, best: i64) -> usize
-    requires { ⌜ n ≤ length (now rs) ⌝ }
-    ensures { λ m. ⌜ m ≡ length (aboveBest best (take n (places (now (rs .entry))))) ⌝ }
-{
-    let mut k = 0;
-    let mut j = 0;
-    while j < n {
-        k = counted(k, rs[j], best);
-        j += 1;
-    }
-    k
-}
-
-// Stores those of the first n records of `from` whose bound is strictly above the best value at place `at` and behind it, in order, and answers the new count.
-pub fn append_above(rs: &mut [Record], at: usize, from: &[Record], n: usize, best: i64) -> usize
-    requires { ⌜ (n ≤ length (now from)) × (at + length (aboveBest best (take n (places (now from)))) ≤ length (now rs)) ⌝ }
-    ensures { λ m. ⌜ Appended at (aboveBest best (take n (places (now (from .entry))))) (places (now (rs .entry))) m (places (now (rs .exit))) ⌝ }
-{
-    let mut k = at;
-    let mut j = 0;
-    while j < n {
-        let r = from[j];
-        if above(r, best) {
-            rs[k] = r;
-            k += 1;
-        }
-        j += 1;
-    }
-    k
-}
-
 // A path's bytes, one in each word from place `from` on.
 fn read_path(words: &[u64], from: usize) -> [u8; 64]
     requires { ⌜ from + 64 ≤ length (now words) ⌝ }
@@ -131,4 +82,46 @@ pub fn from_words(words: &[u64], i: usize) -> Record
         depth: words[at + 3],
         path: path,
     }
+}
+
+// Whether the bound of record number i is strictly above the best value.
+fn is_above(words: &[u64], i: usize, best: i64) -> bool
+    requires { ⌜ i * recordWords + recordWords ≤ length (now words) ⌝ }
+    ensures { λ b. ⌜ b ≡ ltZ best (recordIn (now (words .entry)) i .bound) ⌝ }
+{
+    let bound = words::number(words[i * RECORD_WORDS + 2]);
+    best < bound
+}
+
+// How many of the first n records have a bound strictly above the best value.
+pub fn count_above(words: &[u64], n: usize, best: i64) -> usize
+    requires { ⌜ n * recordWords ≤ length (now words) ⌝ }
+    ensures { λ m. ⌜ m ≡ length (aboveBest best (placesIn n (now (words .entry)))) ⌝ }
+{
+    let mut k = 0;
+    let mut j = 0;
+    while j < n {
+        if is_above(words, j, best) {
+            k += 1;
+        }
+        j += 1;
+    }
+    k
+}
+
+// Stores those of the first n records of the words whose bound is strictly above the best value at place `at` and behind it, in order, and answers the new count.
+pub fn append_above(rs: &mut [Record], at: usize, words: &[u64], n: usize, best: i64) -> usize
+    requires { ⌜ (n * recordWords ≤ length (now words)) × (at + length (aboveBest best (placesIn n (now words))) ≤ length (now rs)) ⌝ }
+    ensures { λ m. ⌜ Appended at (aboveBest best (placesIn n (now (words .entry)))) (places (now (rs .entry))) m (places (now (rs .exit))) ⌝ }
+{
+    let mut k = at;
+    let mut j = 0;
+    while j < n {
+        if is_above(words, j, best) {
+            rs[k] = from_words(words, j);
+            k += 1;
+        }
+        j += 1;
+    }
+    k
 }

@@ -1,14 +1,12 @@
-// An answer: the numbers that tell it, and the tables after the call.
+// The numbers that tell an answer, all but the tables after the call.
 use compile::Answer;
 use finalize::Value;
 use layers::Layers;
 use lines::flag;
 use lines::number_of;
-use lines::output;
 use lines::output::put;
 use lines::output::put_list;
 use lines::output::put_path;
-use lines::tables::put_table;
 
 // A best value: 1 and its word, or 0 and 0.
 fn put_value(out: &mut [u8; 65536], at: usize, v: Value) -> usize {
@@ -52,21 +50,4 @@ pub fn put_answer(out: &mut [u8; 65536], at: usize, a: Answer) -> usize {
         &[a.nodes as u64, a.edges as u64, a.drained as u64],
     );
     put_layers(out, end, layers)
-}
-
-// The lent tables after the call, and the answer's end.
-pub fn put_tables(
-    out: &mut [u8; 65536],
-    at: usize,
-    nodes: &[u64],
-    edges: &[u64],
-    records: &[u64],
-    head: [u64; 19],
-) -> usize {
-    let step = head[18];
-    let first = put_table(out, at, nodes, head[15], step);
-    let second = put_table(out, first, edges, head[16], step);
-    let end = put_table(out, second, records, head[17], step);
-    output::end_line(out, end);
-    end
 }

@@ -7,20 +7,13 @@ use lines::at_most;
 use lines::input;
 use lines::input::Input;
 use lines::output;
-use lines::tables::fill;
+use lines::tables::fill_all;
+use lines::tables::put_tables;
 
 // How far the program has come: its reading, and the bytes of its output that aren't written out yet.
 struct Stand {
     input: Input,
     at: usize,
-}
-
-// Puts old contents into the lent tables.
-fn fill_all(nodes: &mut [u64], edges: &mut [u64], records: &mut [u64], head: [u64; 19]) {
-    let step = head[18];
-    fill(nodes, head[15], step);
-    fill(edges, head[16], step);
-    fill(records, head[17], step);
 }
 
 // The call, over tables of those old contents.
@@ -52,7 +45,9 @@ fn call(
 ) -> usize {
     let a = compiled(head, weights, profits, path, nodes, edges, records);
     let first = answers::put_answer(out, at, a);
-    answers::put_tables(out, first, nodes, edges, records, head)
+    let end = put_tables(out, first, nodes, edges, records, head);
+    output::end_line(out, end);
+    end
 }
 
 // The call over the first words of these tables, so many as the request lends.

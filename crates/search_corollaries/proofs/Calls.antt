@@ -1,16 +1,16 @@
 -- The calls of one search are a trace of the definition, so demand 3 holds of them.
 use mathlib.Core.Path.{_≡_, sym, ap, ap₂, subst, _∙_}
 use mathlib.Core.List.{List}
-use Prim.Native.Nat.{ℕ, _≤_}
+use Prim.Native.Nat.{ℕ}
 use native.Mathlib.Omega.{arith}
 use lib.IntN.{ℤ}
-use lib.ListN.{length, take}
+use lib.ListN.{take}
 use Rattle.cutset.specs.Whole.{kindOf}
 use Rattle.refusals.specs.declared.Verdict.{Verdict}
 use Rattle.refusals.specs.declared.Verdict.the-variants.{Accepted, Refused}
 use Rattle.records.specs.declared.Record.{Record}
 use Rattle.records.specs.Structs.{places}
-use Rattle.records.proofs.Places.{places-length, places-take}
+use Rattle.records.proofs.Places.{places-take}
 use Rattle.searches.specs.Places.{Place}
 use Rattle.searches.specs.Search as Def
 use Rattle.searches.specs.Search.{openIn}
@@ -27,7 +27,7 @@ use Rattle.search.specs.Answered.{startedFrom, pickedFrom}
 use Rattle.demand3.proofs.Few.{picks-are-few}
 use Rattle.demand3.proofs.Ended.{empty-means-optimal}
 use Rattle.demand3.proofs.Always.{always-stands}
-use Rattle.pick.specs.Picks.{askedIn, heldIn}
+use Rattle.pick_steps.specs.Tried.{askedIn, heldIn}
 use Rattle.search_corollaries.specs.Calls as Calling
 use Rattle.search_corollaries.specs.Calls.{Calls, CallsAreFew, CallsEndOptimal, CallsStand, PickInPlace}
 
@@ -54,14 +54,13 @@ trace-of {b} {bound} {most} (Calling.begins width list list′ a h v) =
     let e = started-is (start (problemAt b width) bound (places list) .answer) a (h .answered) v in
     subst (λ (l : List Place). Trace b bound most (searchOf (a .search)) l) (sym (h .written)) (begins width (places list) (searchOf (a .search)) e)
 trace-of {b} {bound} {most} (Calling.goes-on {s} {list} c ask place lent lent′ scratch scratch′ ns es ns′ es′ p page same few h) =
-    let at : Attempt = record { width = ask .width; kind = kindOf (ask .kind); place = place; held = heldIn (places lent) ns es (places scratch) } in
-    let d = pick (askedIn (b .weights) (b .profits) ask place) (searchOf s) (heldIn (places lent) ns es (places scratch)) in
+    let at : Attempt = record { width = ask .width; kind = kindOf (ask .kind); place = place; held = heldIn (places lent) ns es scratch } in
+    let d = pick (askedIn (b .weights) (b .profits) ask place) (searchOf s) (heldIn (places lent) ns es scratch) in
     let opened : openIn (searchOf s) (places lent) ≡ openIn (searchOf s) (places list) = opened-same (s .opened) lent list same in
-    let room : length (places scratch) ≤ most = omega (arith, few, places-length scratch) in
     subst (λ (x : Def.Search). Trace b bound most x (places lent′)) (sym (picked-search (d .answer) (d .search) p (h .answered)))
     (subst (λ (l : List Place). Trace b bound most (d .search) l) (sym (h .list-is))
-    (subst (λ (n : ℕ). let e = pick (record { problem = record { weights = b .weights; profits = b .profits; page = n; width = ask .width }; kind = kindOf (ask .kind); place = place }) (searchOf s) (heldIn (places lent) ns es (places scratch)) in Trace b bound most (e .search) (e .held .list)) (sym page)
-    (goes-on (trace-of c) at opened room)))
+    (subst (λ (n : ℕ). let e = pick (record { problem = record { weights = b .weights; profits = b .profits; page = n; width = ask .width }; kind = kindOf (ask .kind); place = place }) (searchOf s) (heldIn (places lent) ns es scratch) in Trace b bound most (e .search) (e .held .list)) (sym page)
+    (goes-on (trace-of c) at opened few)))
 
 -- ---- demand 3 for calls
 

@@ -1,4 +1,3 @@
--- Two picks on equal input, the calls of one search, and a compile into record structs.
+-- Two picks on equal input, and the calls of one search.
 pub mod Calls
-pub mod Demand2
 pub mod Twice

@@ -10,25 +10,23 @@ use lib.Dec.{leb}
 use lib.ListN.{length, getD, take, drop}
 use lib.Seq.{take-at, drop-append-add}
 use lib.Signed.{ltZ}
-use Rattle.layout.specs.Table.{over}
 use Rattle.calls.specs.Asked.{Given}
 use Rattle.calls.specs.Refusals.{firstOf, recordChecks}
+use Rattle.layout.specs.Table.{wordsOf, over}
+use Rattle.layout.specs.Records.{recordTable}
 use Rattle.calls.specs.Compile as Call
-use Rattle.calls.specs.Compile.{Rooms, refused, compiled}
+use Rattle.calls.specs.Compile.{Lent, Rooms, roomsOf, refused, compiled, Effect, compileEffect, after}
 use Rattle.searches.specs.Places.{Place, givenAt, noPlace, overPlaces}
-use Rattle.searches.specs.Compile as Into
-use Rattle.searches.specs.Compile.{Lent, Effect, roomsOf, compileEffect, after, compile}
 use Rattle.searches.specs.Search.{Search, openIn, without}
 use Rattle.searches.specs.Pick as Pick
-use Rattle.searches.specs.Pick.{Asked, Held, After, pickRefusal, pickedFrom, requestFor, refusing, accepting, better, onePickMore, ifRoom, appended, lentAfter, afterCompile, ifAbove, unless, pick}
+use Rattle.searches.specs.Pick.{Asked, Held, After, pickRefusal, pickedFrom, requestFor, refusing, accepting, better, onePickMore, ifRoom, appended, drainedPlaces, afterCompile, ifAbove, unless, pick}
 use Rattle.search.specs.Refused.{pickFirst}
 use Rattle.search.proofs.Firsts.{refused-first, then-record, allowed}
 use Rattle.search.specs.declared.Picked.{Picked}
 use Rattle.search.specs.Answered as Code
-use Rattle.compile.specs.declared.Answer.{Answer}
-use Rattle.compile_records.specs.Queried.{lentOf, Compiles}
+use Rattle.compile.specs.Asked.{lentOf}
 use Rattle.pick.specs.Picks.{Picks}
-use Rattle.search_corollaries.specs.Twice.{SameInput, PickedAlike, OnePick, OneCompile}
+use Rattle.search_corollaries.specs.Twice.{SameInput, PickedAlike, OnePick}
 
 -- a place among the first n is the same in two lists whose first n are
 same-place : (n i : ℕ) (xs ys : List Place) → i < n → take n xs ≡ take n ys → getD xs i noPlace ≡ getD ys i noPlace
@@ -42,7 +40,7 @@ same-place n i xs ys h e = sym (among n i xs h) ∙ ap (λ (l : List Place). get
 
 -- nothing is written
 abbrev nothing : Effect
-nothing = record { answer = refused 0; nodes = []; edges = []; records = [] }
+nothing = record { answer = refused 0; nodes = []; edges = []; drained = [] }
 
 module _ (q : Asked) (s : Search) (h k : Held) (same : SameInput s h k) where
   first-same : pickFirst (q .problem) s (q .place) (length (h .list)) ≡ pickFirst (q .problem) s (q .place) (length (k .list))
@@ -69,7 +67,7 @@ module _ (q : Asked) (s : Search) (h k : Held) (same : SameInput s h k) where
       go (some n) f = let y : some n ≡ none = sym (refused-first q s (h .list) n f) ∙ e in let z : _≡_ {A = ℕ} 0 1 = cc in absurd (omega arith)
 
   -- refused: search and lists as they were, tables with what was written
-  refused-alike : (n : ℕ) (w : Effect) → PickedAlike (refusing n s (h .list) (lentAfter w (h .lent))) (refusing n s (k .list) (lentAfter w (k .lent))) h k
+  refused-alike : (n : ℕ) (w : Effect) → PickedAlike (refusing n s (h .list) (after w (h .lent) .lent)) (refusing n s (k .list) (after w (k .lent) .lent)) h k
   unfolding refusing overPlaces
   refused-alike n w =
       record {
@@ -95,7 +93,7 @@ module _ (q : Asked) (s : Search) (h k : Held) (same : SameInput s h k) where
       let z : length left ≡ length left + 0 = omega arith in
       ap (λ (m : ℕ). drop m (left ++ drop (length left) list)) z ∙ drop-append-add left (drop (length left) list) 0
 
-  accepted-alike : (s₁ : Search) (left : List Place) (w : Effect) → PickedAlike (accepting s₁ left (h .list) (lentAfter w (h .lent))) (accepting s₁ left (k .list) (lentAfter w (k .lent))) h k
+  accepted-alike : (s₁ : Search) (left : List Place) (w : Effect) → PickedAlike (accepting s₁ left (h .list) (after w (h .lent) .lent)) (accepting s₁ left (k .list) (after w (k .lent) .lent)) h k
   unfolding accepting openIn onePickMore
   accepted-alike s₁ left w =
       record {
@@ -111,7 +109,7 @@ module _ (q : Asked) (s : Search) (h k : Held) (same : SameInput s h k) where
         second-lent = refl;
       }
 
-  room-alike : (b : Bool) (s₁ : Search) (left : List Place) (w : Effect) → PickedAlike (ifRoom b s s₁ left (h .list) (lentAfter w (h .lent))) (ifRoom b s s₁ left (k .list) (lentAfter w (k .lent))) h k
+  room-alike : (b : Bool) (s₁ : Search) (left : List Place) (w : Effect) → PickedAlike (ifRoom b s s₁ left (h .list) (after w (h .lent) .lent)) (ifRoom b s s₁ left (k .list) (after w (k .lent) .lent)) h k
   unfolding ifRoom
   room-alike true s₁ left w = accepted-alike s₁ left w
   room-alike false s₁ left w = refused-alike 13 w
@@ -121,19 +119,19 @@ module _ (q : Asked) (s : Search) (h k : Held) (same : SameInput s h k) where
   compiled-alike (refused n) w rest = refused-alike n w
   compiled-alike (compiled c) w rest =
       let s₁ = better (c .bestExact) (c .exactPath) s in
-      let left = rest ++ appended (c .exact) (s₁ .best) (w .records) in
-      subst (λ (n : ℕ). PickedAlike (ifRoom (leb (length left) (length (h .list))) s s₁ left (h .list) (lentAfter w (h .lent))) (ifRoom (leb (length left) n) s s₁ left (k .list) (lentAfter w (k .lent))) h k) (same .long)
+      let left = rest ++ appended (c .exact) (s₁ .best) (drainedPlaces w) in
+      subst (λ (n : ℕ). PickedAlike (ifRoom (leb (length left) (length (h .list))) s s₁ left (h .list) (after w (h .lent) .lent)) (ifRoom (leb (length left) n) s s₁ left (k .list) (after w (k .lent) .lent)) h k) (same .long)
       (room-alike (leb (length left) (length (h .list))) s₁ left w)
 
-  kept : (l : Lent) → lentAfter nothing l ≡ l
-  unfolding lentAfter over overPlaces
+  kept : (l : Lent) → after nothing l .lent ≡ l
+  unfolding after over recordTable wordsOf
   kept l = refl
 
   above-alike : (b : Bool) (g : Given) (rest : List Place) → PickedAlike (ifAbove b q s g rest h) (ifAbove b q s g rest k) h k
   unfolding ifAbove
   above-alike false g rest =
       subst (λ (l : Lent). PickedAlike (accepting s rest (h .list) l) (accepting s rest (k .list) (k .lent)) h k) (kept (h .lent))
-      (subst (λ (l : Lent). PickedAlike (accepting s rest (h .list) (lentAfter nothing (h .lent))) (accepting s rest (k .list) l) h k) (kept (k .lent)) (accepted-alike s rest nothing))
+      (subst (λ (l : Lent). PickedAlike (accepting s rest (h .list) (after nothing (h .lent) .lent)) (accepting s rest (k .list) l) h k) (kept (k .lent)) (accepted-alike s rest nothing))
   above-alike true g rest =
       let w = compileEffect (requestFor q s g) (roomsOf (h .lent)) in
       subst (λ (m : Rooms). let v = compileEffect (requestFor q s g) m in PickedAlike (afterCompile (w .answer) w s rest h) (afterCompile (v .answer) v s rest k) h k) (same .rooms) (compiled-alike (w .answer) w rest)
@@ -142,7 +140,7 @@ module _ (q : Asked) (s : Search) (h k : Held) (same : SameInput s h k) where
   unfolding unless
   unless-alike (some n) e =
       subst (λ (l : Lent). PickedAlike (refusing n s (h .list) l) (refusing n s (k .list) (k .lent)) h k) (kept (h .lent))
-      (subst (λ (l : Lent). PickedAlike (refusing n s (h .list) (lentAfter nothing (h .lent))) (refusing n s (k .list) l) h k) (kept (k .lent)) (refused-alike n nothing))
+      (subst (λ (l : Lent). PickedAlike (refusing n s (h .list) (after nothing (h .lent) .lent)) (refusing n s (k .list) l) h k) (kept (k .lent)) (refused-alike n nothing))
   unless-alike none e =
       let g = pickedFrom (h .list) (q .place) in
       let f = pickedFrom (k .list) (q .place) in
@@ -162,12 +160,12 @@ opened-of : (x : Pick.Picked) (s : Search) (p : Picked) → p ≡ Code.pickedFro
 opened-of (Pick.refusedBy n) s p e = ap (λ (u : Picked). u .search .opened) e
 opened-of Pick.accepted s p e = ap (λ (u : Picked). u .search .opened) e
 
-lent-of : (d : After) (p : Picked) (ns es : List ℕ) (l r : List Place) → Picks d p ns es l r → lentOf ns es r ≡ d .held .lent
-lent-of d p ns es l r x = rw (x .nodes-are, x .edges-are, x .scratch-is) refl
+lent-of : (d : After) (p : Picked) (ns es r : List ℕ) (l : List Place) → Picks d p ns es l r → lentOf ns es r ≡ d .held .lent
+lent-of d p ns es r l x = rw (x .nodes-are, x .edges-are, x .scratch-is) refl
 
 pub one-pick : OnePick
 unfolding openIn
-one-pick q s h k same p p′ ns es ns′ es′ l r l′ r′ x y =
+one-pick q s h k same p p′ ns es r ns′ es′ r′ l l′ x y =
     let d = pick q s h in
     let e = pick q s k in
     let z = picks-alike q s h k same in
@@ -182,21 +180,6 @@ one-pick q s h k same p p′ ns es ns′ es′ l r l′ r′ x y =
       first-list = x .list-is ∙ z .first-list;
       second-list = y .list-is ∙ z .second-list;
       written = z .written;
-      first-lent = lent-of d p ns es l r x ∙ z .first-lent;
-      second-lent = lent-of e p′ ns′ es′ l′ r′ y ∙ z .second-lent;
-    }
-
-compiled-lent : (d : Into.After) (a : Answer) (ns es : List ℕ) (r : List Place) → Compiles d a ns es r → lentOf ns es r ≡ d .lent
-compiled-lent d a ns es r x = rw (x .nodes-are, x .edges-are, x .records-are) refl
-
-pub one-compile : OneCompile
-unfolding compile after lentAfter
-one-compile q t t′ same a b ns es ns′ es′ r r′ x y =
-    let w = compileEffect q (roomsOf t) in
-    let y₁ : Compiles (after w t′) b ns′ es′ r′ = subst (λ (m : Rooms). Compiles (after (compileEffect q m) t′) b ns′ es′ r′) (sym same) y in
-    record {
-      answers = x .answer-is ∙ sym (y₁ .answer-is);
-      written = w;
-      first-lent = compiled-lent (after w t) a ns es r x;
-      second-lent = compiled-lent (after w t′) b ns′ es′ r′ y₁;
+      first-lent = lent-of d p ns es r l x ∙ z .first-lent;
+      second-lent = lent-of e p′ ns′ es′ r′ l′ y ∙ z .second-lent;
     }

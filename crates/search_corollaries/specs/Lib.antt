@@ -1,4 +1,3 @@
--- What is said of two picks on equal input, of the calls of one search, and of a compile into record structs.
+-- What is said of two picks on equal input, and of the calls of one search.
 pub mod Calls
-pub mod Demand2
 pub mod Twice

@@ -1,15 +1,13 @@
--- Two picks, or two compiles into record structs, on equal input: the same question, search and open records in lists of one length, as many rows and scratch places; all else that is lent may differ.
+-- Two picks on equal input: the same question, search and open records in lists of one length, as many whole rows and scratch places; all else that is lent may differ.
 use mathlib.Core.Path.{_≡_}
 use mathlib.Core.List.{List}
 use Prim.Native.Nat.{ℕ}
 use lib.ListN.{length, take, drop}
-use Rattle.calls.specs.Compile.{Request}
+use Rattle.calls.specs.Compile.{Lent, Effect, roomsOf, after}
 use Rattle.searches.specs.Places.{Place, overPlaces}
-use Rattle.searches.specs.Compile.{Lent, Effect, roomsOf, compile}
 use Rattle.searches.specs.Search.{Search, openIn}
-use Rattle.searches.specs.Pick.{Asked, Held, After, lentAfter, pick}
-use Rattle.compile.specs.declared.Answer.{Answer}
-use Rattle.compile_records.specs.Queried.{lentOf, Compiles}
+use Rattle.searches.specs.Pick.{Asked, Held, After, pick}
+use Rattle.compile.specs.Asked.{lentOf}
 use Rattle.search.specs.declared.Picked.{Picked}
 use Rattle.pick.specs.Picks.{Picks}
 
@@ -28,8 +26,8 @@ pub record PickedAlike (d e : After) (h k : Held) : Type 0 where
   pub first-list : d .held .list ≡ overPlaces placed (h .list)
   pub second-list : e .held .list ≡ overPlaces placed (k .list)
   pub written : Effect
-  pub first-lent : d .held .lent ≡ lentAfter written (h .lent)
-  pub second-lent : e .held .lent ≡ lentAfter written (k .lent)
+  pub first-lent : d .held .lent ≡ after written (h .lent) .lent
+  pub second-lent : e .held .lent ≡ after written (k .lent) .lent
 
 -- ---- of calls
 
@@ -42,21 +40,10 @@ pub record AnsweredAlike (p p′ : Picked) (l l′ : List Place) (t t′ : Lent)
   pub first-list : l ≡ overPlaces placed (h .list)
   pub second-list : l′ ≡ overPlaces placed (k .list)
   pub written : Effect
-  pub first-lent : t ≡ lentAfter written (h .lent)
-  pub second-lent : t′ ≡ lentAfter written (k .lent)
+  pub first-lent : t ≡ after written (h .lent) .lent
+  pub second-lent : t′ ≡ after written (k .lent) .lent
 
 abbrev pub OnePick : Type 0
 OnePick =
-    (q : Asked) (s : Search) (h k : Held) → SameInput s h k → (p p′ : Picked) (ns es ns′ es′ : List ℕ) (l r l′ r′ : List Place) →
+    (q : Asked) (s : Search) (h k : Held) → SameInput s h k → (p p′ : Picked) (ns es r ns′ es′ r′ : List ℕ) (l l′ : List Place) →
     Picks (pick q s h) p ns es l r → Picks (pick q s k) p′ ns′ es′ l′ r′ → AnsweredAlike p p′ l l′ (lentOf ns es r) (lentOf ns′ es′ r′) h k
-
-pub record CompiledAlike (a b : Answer) (t t′ before before′ : Lent) : Type 0 where
-  pub answers : a ≡ b
-  pub written : Effect
-  pub first-lent : t ≡ lentAfter written before
-  pub second-lent : t′ ≡ lentAfter written before′
-
-abbrev pub OneCompile : Type 0
-OneCompile =
-    (q : Request) (t t′ : Lent) → roomsOf t ≡ roomsOf t′ → (a b : Answer) (ns es ns′ es′ : List ℕ) (r r′ : List Place) →
-    Compiles (compile q t) a ns es r → Compiles (compile q t′) b ns′ es′ r′ → CompiledAlike a b (lentOf ns es r) (lentOf ns′ es′ r′) t t′

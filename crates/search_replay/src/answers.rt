@@ -1,4 +1,4 @@
-// Lists of records from a request's words, and the parts of an answer.
+// The list of records from a request's words, and the parts of an answer.
 use lines::flag;
 use lines::number_of;
 use lines::output::put;

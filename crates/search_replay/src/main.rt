@@ -8,8 +8,8 @@ use lines::input;
 use lines::input::Input;
 use lines::output;
 use lines::output::put_list;
-use lines::tables::fill;
-use lines::tables::put_table;
+use lines::tables::fill_all;
+use lines::tables::put_tables;
 use records::Record;
 
 // How far the program has come: its reading, and the bytes of its output that aren't written out yet.
@@ -18,31 +18,16 @@ struct Stand {
     at: usize,
 }
 
-// Both lists after the call, each in the places that were lent.
-fn put_both(
-    out: &mut [u8; 65536],
-    at: usize,
-    list: [Record; 64],
-    n: usize,
-    scratch: [Record; 64],
-    m: usize,
-) -> usize {
-    let end = answers::put_records(out, at, list, n);
-    answers::put_records(out, end, scratch, m)
-}
-
-// A start, with its answer. It is lent no table and no scratch list, so they are as they were.
+// A start, with its answer. It is lent no table and no scratch list, so none of their words changes.
 fn answer_start(
     out: &mut [u8; 65536],
     at: usize,
-    head: [u64; 18],
+    head: [u64; 19],
     weights: &[u64],
     profits: &[u64],
     list: [Record; 64],
-    scratch: [Record; 64],
 ) -> usize {
-    let n = at_most(head[13], 64);
-    let m = at_most(head[14], 64);
+    let n = at_most(head[11], 64);
     let ask = requests::ask_of(head);
     let bound = words::number(head[6]);
     let a = over::start_over(weights, profits, ask, bound, list, n);
@@ -51,25 +36,24 @@ fn answer_start(
     let search = started.search;
     let after = a.list;
     let first = answers::put_search(out, at, verdict, search);
-    let second = put_both(out, first, after, n, scratch, m);
-    put_list(out, second, &[0, 0])
+    let second = answers::put_records(out, first, after, n);
+    put_list(out, second, &[0, 0, 0])
 }
 
-// A pick over these tables, with its answer but for the tables.
+// A pick over these tables and this scratch list, with its answer but for them.
 fn picked(
     out: &mut [u8; 65536],
     at: usize,
-    head: [u64; 18],
+    head: [u64; 19],
     weights: &[u64],
     profits: &[u64],
     path: &[u64; 64],
     list: [Record; 64],
-    scratch: [Record; 64],
     nodes: &mut [u64],
     edges: &mut [u64],
+    scratch: &mut [u64],
 ) -> usize {
-    let n = at_most(head[13], 64);
-    let m = at_most(head[14], 64);
+    let n = at_most(head[11], 64);
     let ask = requests::ask_of(head);
     let s = requests::search_of(head, path);
     let place = head[10] as usize;
@@ -81,7 +65,6 @@ fn picked(
         list,
         n,
         scratch,
-        m,
         ask,
         place,
         s,
@@ -91,27 +74,24 @@ fn picked(
     let search = answer.search;
     let first = answers::put_search(out, at, verdict, search);
     let after = a.list;
-    let drained = a.scratch;
-    put_both(out, first, after, n, drained, m)
+    answers::put_records(out, first, after, n)
 }
 
-// A pick over tables of those old contents, with its answer.
+// A pick over tables and a scratch list of those old contents, with its answer.
 fn answer_pick(
     out: &mut [u8; 65536],
     at: usize,
-    head: [u64; 18],
+    head: [u64; 19],
     weights: &[u64],
     profits: &[u64],
     path: &[u64; 64],
     list: [Record; 64],
-    scratch: [Record; 64],
     nodes: &mut [u64],
     edges: &mut [u64],
+    scratch: &mut [u64],
 ) -> usize {
-    let step = head[17];
-    fill(nodes, head[15], step);
-    fill(edges, head[16], step);
-    let first = picked(
+    fill_all(nodes, edges, scratch, head);
+    let end = picked(
         out,
         at,
         head,
@@ -119,32 +99,32 @@ fn answer_pick(
         profits,
         path,
         list,
-        scratch,
         nodes,
         edges,
+        scratch,
     );
-    let second = put_table(out, first, nodes, head[15], step);
-    put_table(out, second, edges, head[16], step)
+    put_tables(out, end, nodes, edges, scratch, head)
 }
 
-// The call that is asked, over lists of records.
+// The call that is asked, over the first words of these tables, so many as the request lends.
 fn call(
     out: &mut [u8; 65536],
     at: usize,
-    head: [u64; 18],
+    head: [u64; 19],
     weights: &[u64],
     profits: &[u64],
     path: &[u64; 64],
     list: [Record; 64],
-    scratch: [Record; 64],
     nodes: &mut [u64],
     edges: &mut [u64],
+    scratch: &mut [u64],
 ) -> usize {
     if head[0] == 0 {
-        return answer_start(out, at, head, weights, profits, list, scratch);
+        return answer_start(out, at, head, weights, profits, list);
     }
-    let n = at_most(head[11], nodes.len());
-    let e = at_most(head[12], edges.len());
+    let n = at_most(head[12], nodes.len());
+    let e = at_most(head[13], edges.len());
+    let r = at_most(head[14], scratch.len());
     answer_pick(
         out,
         at,
@@ -153,9 +133,9 @@ fn call(
         profits,
         path,
         list,
-        scratch,
         &mut nodes[..n],
         &mut edges[..e],
+        &mut scratch[..r],
     )
 }
 
@@ -163,19 +143,18 @@ fn call(
 fn answer(
     out: &mut [u8; 65536],
     at: usize,
-    head: [u64; 18],
+    head: [u64; 19],
     weights: &[u64],
     profits: &[u64],
     path: &[u64; 64],
     list: &[u64; 4352],
-    scratch: &[u64; 4352],
     nodes: &mut [u64],
     edges: &mut [u64],
+    scratch: &mut [u64],
 ) -> usize {
     let w = at_most(head[1], weights.len());
     let p = at_most(head[2], profits.len());
     let l = answers::records_of(list);
-    let r = answers::records_of(scratch);
     let end = call(
         out,
         at,
@@ -184,9 +163,9 @@ fn answer(
         &profits[..p],
         path,
         l,
-        r,
         nodes,
         edges,
+        scratch,
     );
     output::end_line(out, end);
     end
@@ -198,15 +177,15 @@ fn turn(
     out: &mut [u8; 65536],
     nodes: &mut [u64],
     edges: &mut [u64],
+    scratch: &mut [u64],
     i: Input,
     at: usize,
 ) -> Stand {
-    let mut head = [0u64; 18];
+    let mut head = [0u64; 19];
     let mut weights = [0u64; 192];
     let mut profits = [0u64; 192];
     let mut path = [0u64; 64];
     let mut list = [0u64; 4352];
-    let mut scratch = [0u64; 4352];
     let behind = requests::read(
         buf,
         i,
@@ -215,7 +194,6 @@ fn turn(
         &mut profits,
         &mut path,
         &mut list,
-        &mut scratch,
     );
     if !input::is_reading(behind) {
         return Stand {
@@ -231,9 +209,9 @@ fn turn(
         &profits,
         &path,
         &list,
-        &scratch,
         nodes,
         edges,
+        scratch,
     );
     Stand {
         input: behind,
@@ -249,7 +227,13 @@ fn tell(i: Input) {
 }
 
 // Request after request. A proved loop has to end, so it counts its turns down, from a number that no run uses up.
-fn serve(buf: &mut [u8; 65536], out: &mut [u8; 65536], nodes: &mut [u64], edges: &mut [u64]) {
+fn serve(
+    buf: &mut [u8; 65536],
+    out: &mut [u8; 65536],
+    nodes: &mut [u64],
+    edges: &mut [u64],
+    scratch: &mut [u64],
+) {
     let mut i = input::start();
     let mut at = 0;
     let mut turns = u64::MAX;
@@ -257,7 +241,7 @@ fn serve(buf: &mut [u8; 65536], out: &mut [u8; 65536], nodes: &mut [u64], edges:
         if !input::is_reading(i) {
             break;
         }
-        let s = turn(buf, out, nodes, edges, i, at);
+        let s = turn(buf, out, nodes, edges, scratch, i, at);
         i = s.input;
         at = s.at;
         turns -= 1;
@@ -266,11 +250,12 @@ fn serve(buf: &mut [u8; 65536], out: &mut [u8; 65536], nodes: &mut [u64], edges:
     tell(i);
 }
 
-// The tables are the largest that a request may ask for: `requests::tables_fit`.
+// The tables and the scratch list are the largest that a request may ask for: `requests::tables_fit`.
 fn main() {
     let mut buf = io::large_buffer();
     let mut out = io::large_buffer();
     let mut nodes = [0u64; 16384];
     let mut edges = [0u64; 16384];
-    serve(&mut buf, &mut out, &mut nodes, &mut edges);
+    let mut scratch = [0u64; 16384];
+    serve(&mut buf, &mut out, &mut nodes, &mut edges, &mut scratch);
 }

@@ -31,14 +31,13 @@ pub fn start_over(
     }
 }
 
-// A pick's answer, and the lists after it.
+// A pick's answer, and the list after it.
 pub struct PickedOver {
     pub picked: Picked,
     pub list: [Record; 64],
-    pub scratch: [Record; 64],
 }
 
-// A pick over the first n places of the list and the first m of the scratch list.
+// A pick over the first n places of the list.
 pub fn pick_over(
     weights: &[u64],
     profits: &[u64],
@@ -46,23 +45,21 @@ pub fn pick_over(
     edges: &mut [u64],
     list: [Record; 64],
     n: usize,
-    scratch: [Record; 64],
-    m: usize,
+    scratch: &mut [u64],
     ask: Ask,
     place: usize,
     s: Search,
 ) -> PickedOver
-    requires { ⌜ (n ≤ 64) × (m ≤ 64) ⌝ }
+    requires { ⌜ n ≤ 64 ⌝ }
 {
     let mut l = list;
-    let mut r = scratch;
     let picked = pick::pick(
         weights,
         profits,
         nodes,
         edges,
         &mut l[..n],
-        &mut r[..m],
+        scratch,
         ask,
         place,
         s,
@@ -70,6 +67,5 @@ pub fn pick_over(
     PickedOver {
         picked: picked,
         list: l,
-        scratch: r,
     }
 }

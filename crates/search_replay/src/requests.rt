@@ -1,4 +1,4 @@
-// A request: its numbers as they are read, and what they ask. The first 18 stand in `head`, in the order of tools/search/README.md.
+// A request: its numbers as they are read, and what they ask. The first 19 stand in `head`, in the order of tools/search/README.md.
 use cutset::Kind;
 use lines::at_most;
 use lines::input;
@@ -30,7 +30,7 @@ fn path_of(numbers: &[u64; 64]) -> [u8; 64] {
     path
 }
 
-pub fn ask_of(head: [u64; 18]) -> Ask {
+pub fn ask_of(head: [u64; 19]) -> Ask {
     Ask {
         page: head[3],
         width: head[4],
@@ -39,7 +39,7 @@ pub fn ask_of(head: [u64; 18]) -> Ask {
 }
 
 // The search that a pick is asked of.
-pub fn search_of(head: [u64; 18], path: &[u64; 64]) -> Search {
+pub fn search_of(head: [u64; 19], path: &[u64; 64]) -> Search {
     let bytes = path_of(path);
     Search {
         best: words::number(head[6]),
@@ -50,22 +50,22 @@ pub fn search_of(head: [u64; 18], path: &[u64; 64]) -> Search {
     }
 }
 
-// Whether there is room for the tables and the lists.
-fn tables_fit(head: &[u64; 18]) -> bool {
-    if 16384 < head[11] {
+// Whether there are so many words to lend, and places in the list.
+fn tables_fit(head: &[u64; 19]) -> bool {
+    if 64 < head[11] {
         return false;
     }
     if 16384 < head[12] {
         return false;
     }
-    if 64 < head[13] {
+    if 16384 < head[13] {
         return false;
     }
-    head[14] <= 64
+    head[14] <= 16384
 }
 
 // Whether there is room for what is read and lent, and call and cutset kind have their numbers.
-fn fits(head: &[u64; 18]) -> bool {
+fn fits(head: &[u64; 19]) -> bool {
     if 1 < head[0] {
         return false;
     }
@@ -81,24 +81,17 @@ fn fits(head: &[u64; 18]) -> bool {
     tables_fit(head)
 }
 
-// The words of a list of so many records.
-fn read_list(buf: &mut [u8; 65536], i: Input, list: &mut [u64], places: u64) -> Input {
-    let n = at_most(places, 64);
-    input::list(buf, i, list, n as u64 * 68)
-}
-
-// What comes behind the weights and profits. An end before its last number is no place for it.
+// The path and the words of so many records, which are read last. An end before the last number is no place for it.
 fn read_lists(
     buf: &mut [u8; 65536],
     i: Input,
-    head: &[u64; 18],
     path: &mut [u64],
     list: &mut [u64],
-    scratch: &mut [u64],
+    places: u64,
 ) -> Input {
+    let n = at_most(places, 64);
     let behind = input::list(buf, i, path, 64);
-    let second = read_list(buf, behind, list, head[13]);
-    let last = read_list(buf, second, scratch, head[14]);
+    let last = input::list(buf, behind, list, n as u64 * 68);
     if !input::is_reading(last) {
         return input::stopped(State::Broken);
     }
@@ -109,14 +102,13 @@ fn read_lists(
 pub fn read(
     buf: &mut [u8; 65536],
     i: Input,
-    head: &mut [u64; 18],
+    head: &mut [u64; 19],
     weights: &mut [u64],
     profits: &mut [u64],
     path: &mut [u64],
     list: &mut [u64],
-    scratch: &mut [u64],
 ) -> Input {
-    let begun = input::list(buf, i, head, 18);
+    let begun = input::list(buf, i, head, 19);
     if !input::is_reading(begun) {
         return begun;
     }
@@ -125,5 +117,5 @@ pub fn read(
     }
     let behind = input::list(buf, begun, weights, head[1]);
     let second = input::list(buf, behind, profits, head[2]);
-    read_lists(buf, second, head, path, list, scratch)
+    read_lists(buf, second, path, list, head[11])
 }

@@ -1,6 +1,6 @@
 -- The figures of start and pick, computed from the definitions.
 use mathlib.Core.Path.{refl}
-use Rattle.searches.specs.Figures.{seen, Starts, CaseN, Refusals, Slips, Leaves}
+use Rattle.searches.specs.Figures.{seen, Starts, CaseN, Refusals, Slips}
 use Rattle.searches.proofs.Computing.{computing}
 
 pub starts-right : Starts
@@ -18,7 +18,3 @@ refusals-right = (refl, refl, refl, refl, refl, refl, refl)
 pub slips-right : Slips
 unfolding computing seen
 slips-right = (refl, refl, refl)
-
-pub leaves-right : Leaves
-unfolding computing
-leaves-right = (refl, refl, refl)

@@ -1,23 +1,20 @@
--- Case N, 'search of H, picks 0 0 0', 'path 1 4 3, value 7', pick by pick, and the refusals of start and pick, as whole calls; what a compile into a list of structs leaves.
+-- Case N, 'search of H, picks 0 0 0', 'path 1 4 3, value 7', pick by pick, and the refusals of start and pick, as whole calls.
 use mathlib.Core.Path.{_≡_}
 use mathlib.Core.Bool.{Bool, true, false}
-use mathlib.Core.List.{List, [], _∷_, map}
+use mathlib.Core.List.{List, [], _∷_, _++_}
 use Prim.Native.Nat.{ℕ}
 use lib.IntN.{ℤ, pos}
 use lib.ListN.{replicate}
 use Rattle.words.specs.I64.{i64Min, i64Max}
-use Rattle.diagram.specs.Run.{exactly}
 use Rattle.diagram.specs.After4.{lastExactLayer}
 use Rattle.calls.specs.Asked.{Problem}
-use Rattle.calls.specs.Compile.{refused}
-use Rattle.searches.specs.Places.{Place, givenAt}
-use Rattle.searches.specs.Compile as Compile
-use Rattle.searches.specs.Compile.{Lent}
+use Rattle.calls.specs.Compile.{Lent}
+use Rattle.searches.specs.Places.{Place}
 use Rattle.searches.specs.Search.{Search}
 use Rattle.searches.specs.Start as Start
 use Rattle.searches.specs.Start.{start, started}
 use Rattle.searches.specs.Pick as Pick
-use Rattle.searches.specs.Pick.{Asked, Held, Picked, refusedBy, accepted, pick}
+use Rattle.searches.specs.Pick.{Held, Picked, refusedBy, accepted, pick}
 
 -- 'T is the three items of case R, capacity 2.'
 abbrev T : ℕ → Problem
@@ -41,6 +38,13 @@ H₁ = place 1 (pos 4) (pos 9) 1 (1 ∷ replicate 63 0)
 abbrev H₂ : Place
 H₂ = place 2 (pos 0) (pos 5) 1 (0 ∷ replicate 63 0)
 
+-- the same as the scratch list has them, 68 words each: value 4 and bound 9, value 0 and bound 5, as words
+abbrev drained₁ : List ℕ
+drained₁ = 1 ∷ 9223372036854775812 ∷ 9223372036854775817 ∷ 1 ∷ 1 ∷ replicate 63 0
+
+abbrev drained₂ : List ℕ
+drained₂ = 2 ∷ 9223372036854775808 ∷ 9223372036854775813 ∷ 1 ∷ 0 ∷ replicate 63 0
+
 abbrev search : ℤ → Bool → List ℕ → ℕ → ℕ → Search
 search best held path opened picks = record { best = best; held = held; path = path; opened = opened; picks = picks }
 
@@ -51,11 +55,11 @@ nothing = replicate 64 0
 abbrev pathN : List ℕ
 pathN = 1 ∷ 4 ∷ 3 ∷ replicate 61 0
 
--- tables of H's rows, and a scratch list of so many places
-abbrev lend : List Place → Lent
+-- tables of H's rows, and a scratch list
+abbrev lend : List ℕ → Lent
 lend scratch = record { nodes = replicate 72 0; edges = replicate 60 0; records = scratch }
 
-abbrev held : List Place → List Place → Held
+abbrev held : List Place → List ℕ → Held
 held list scratch = record { list = list; lent = lend scratch }
 
 -- what is seen of a pick: its answer, the search, the list and the scratch list
@@ -63,20 +67,30 @@ pub record Seen : Type 0 where
   pub answer : Picked
   pub search : Search
   pub list : List Place
-  pub scratch : List Place
+  pub scratch : List ℕ
 
 unfoldable pub seen : Pick.After → Seen
 seen a = record { answer = a .answer; search = a .search; list = a .held .list; scratch = a .held .lent .records }
 
-abbrev see : Picked → Search → List Place → List Place → Seen
+abbrev see : Picked → Search → List Place → List ℕ → Seen
 see answer search list scratch = record { answer = answer; search = search; list = list; scratch = scratch }
 
 -- a pick of place 0 at width 1
-abbrev first : Search → List Place → List Place → Seen
+abbrev first : Search → List Place → List ℕ → Seen
 first s list scratch = seen (pick (record { problem = T 1; kind = lastExactLayer; place = 0 }) s (held list scratch))
 
-abbrev at : ℕ → ℕ → Search → List Place → List Place → Seen
+abbrev at : ℕ → ℕ → Search → List Place → List ℕ → Seen
 at width n s list scratch = seen (pick (record { problem = T width; kind = lastExactLayer; place = n }) s (held list scratch))
+
+-- a scratch list of one place, of two and of three, before anyone wrote it
+abbrev one : List ℕ
+one = replicate 68 8
+
+abbrev two : List ℕ
+two = one ++ replicate 68 9
+
+abbrev three : List ℕ
+three = two ++ replicate 68 10
 
 -- the searches of case N: begun, after the first pick, the second and the third
 abbrev s₀ : Search
@@ -101,11 +115,11 @@ Starts =
 -- Case N: H's diagram drains two records; the second pick finds 7, and nothing that it drains is above it; the third drops a record.
 abbrev pub CaseN : Type 0
 CaseN =
-    (first s₀ (root ∷ old 6 ∷ old 7 ∷ []) (old 8 ∷ old 9 ∷ []) ≡ see accepted s₁ (H₁ ∷ H₂ ∷ old 7 ∷ []) (H₁ ∷ H₂ ∷ []))
-    × (first s₁ (H₁ ∷ H₂ ∷ old 7 ∷ []) (old 8 ∷ old 9 ∷ []) ≡ see accepted s₂ (H₂ ∷ H₂ ∷ old 7 ∷ []) (old 8 ∷ old 9 ∷ []))
-    × (first s₂ (H₂ ∷ H₂ ∷ old 7 ∷ []) (old 8 ∷ old 9 ∷ []) ≡ see accepted s₃ (H₂ ∷ H₂ ∷ old 7 ∷ []) (old 8 ∷ old 9 ∷ []))
+    (first s₀ (root ∷ old 6 ∷ old 7 ∷ []) two ≡ see accepted s₁ (H₁ ∷ H₂ ∷ old 7 ∷ []) (drained₁ ++ drained₂))
+    × (first s₁ (H₁ ∷ H₂ ∷ old 7 ∷ []) two ≡ see accepted s₂ (H₂ ∷ H₂ ∷ old 7 ∷ []) two)
+    × (first s₂ (H₂ ∷ H₂ ∷ old 7 ∷ []) two ≡ see accepted s₃ (H₂ ∷ H₂ ∷ old 7 ∷ []) two)
 
--- refused picks: 14 in its three ways, before 7 and after 6; 13 from the scratch list and from the open list
+-- refused picks: 14 in its three ways, before 7 and after 6; 13 from the scratch list, whose words behind the last whole record are no place, and from the open list
 abbrev pub Refusals : Type 0
 Refusals =
     (at 1 1 s₀ (root ∷ []) [] ≡ see (refusedBy 14) s₀ (root ∷ []) [])
@@ -113,8 +127,8 @@ Refusals =
     × (at 1 0 (search i64Min false nothing 1 18446744073709551615) (old 9 ∷ []) [] ≡ see (refusedBy 14) (search i64Min false nothing 1 18446744073709551615) (old 9 ∷ []) [])
     × (at 0 1 s₀ (root ∷ []) [] ≡ see (refusedBy 6) s₀ (root ∷ []) [])
     × (at 1 0 s₀ (old 9 ∷ []) [] ≡ see (refusedBy 7) s₀ (old 9 ∷ []) [])
-    × (first s₀ (root ∷ old 6 ∷ []) (old 8 ∷ []) ≡ see (refusedBy 13) s₀ (root ∷ old 6 ∷ []) (old 8 ∷ []))
-    × (first s₀ (root ∷ []) (old 8 ∷ old 9 ∷ old 10 ∷ []) ≡ see (refusedBy 13) s₀ (root ∷ []) (H₁ ∷ H₂ ∷ old 10 ∷ []))
+    × (first s₀ (root ∷ old 6 ∷ []) (one ++ replicate 67 9) ≡ see (refusedBy 13) s₀ (root ∷ old 6 ∷ []) (one ++ replicate 67 9))
+    × (first s₀ (root ∷ []) three ≡ see (refusedBy 13) s₀ (root ∷ []) (drained₁ ++ drained₂ ++ replicate 68 10))
 
 -- items (1,1) (1,2) (1,2), capacity 2, width 2: the root's compile finds 3 exactly and drains two records, with bounds 3 and 4
 abbrev U : Problem
@@ -126,25 +140,16 @@ U₁ = place 1 (pos 1) (pos 3) 1 (1 ∷ replicate 63 0)
 abbrev U₂ : Place
 U₂ = place 2 (pos 0) (pos 4) 1 (0 ∷ replicate 63 0)
 
-abbrev rootU : Search → List Place → List Place → Seen
+abbrev drainedU : List ℕ
+drainedU = (1 ∷ 9223372036854775809 ∷ 9223372036854775811 ∷ 1 ∷ 1 ∷ replicate 63 0) ++ (2 ∷ 9223372036854775808 ∷ 9223372036854775812 ∷ 1 ∷ 0 ∷ replicate 63 0)
+
+abbrev rootU : Search → List Place → List ℕ → Seen
 rootU s list scratch =
     seen (pick (record { problem = U; kind = lastExactLayer; place = 0 }) s (record { list = list; lent = record { nodes = replicate 80 0; edges = replicate 60 0; records = scratch } }))
 
 -- slips: a drained record is not appended where its bound equals the best value that the same pick found; the middle one of three goes, the last one moves down, and what it left stays; the bound alone says whether a record is compiled, not its value
 abbrev pub Slips : Type 0
 Slips =
-    (rootU s₀ (root ∷ old 6 ∷ old 7 ∷ []) (old 8 ∷ old 9 ∷ []) ≡ see accepted (search (pos 3) true (4 ∷ 3 ∷ 1 ∷ replicate 61 0) 1 1) (U₂ ∷ old 6 ∷ old 7 ∷ []) (U₁ ∷ U₂ ∷ []))
-    × (at 1 1 (search (pos 5) false nothing 3 4) (H₁ ∷ H₂ ∷ U₁ ∷ old 7 ∷ []) (old 8 ∷ []) ≡ see accepted (search (pos 5) false nothing 2 5) (H₁ ∷ U₁ ∷ U₁ ∷ old 7 ∷ []) (old 8 ∷ []))
-    × (first (search (pos 5) false nothing 1 1) (H₁ ∷ []) (old 8 ∷ old 9 ∷ []) ≡ see accepted (search (pos 7) true pathN 0 2) (H₁ ∷ []) (old 8 ∷ old 9 ∷ []))
-
--- one item of weight 1 and profit 2, capacity 1, compiled exactly from the root, in tables of so many words
-abbrev one : ℕ → ℕ → Compile.After
-one nodes edges =
-    Compile.compile (record { problem = record { weights = 1 ∷ []; profits = 2 ∷ []; page = 1; width = 1 }; mode = exactly; kind = lastExactLayer; lower = i64Min; given = givenAt (place 1 (pos 0) i64Max 0 nothing) }) (record { nodes = replicate nodes 7; edges = replicate edges 8; records = old 5 ∷ [] })
-
--- what a compile into a list of structs leaves: whole rows from each table's start on, the words behind them and the list as they were; and where each table in turn is a row short
-abbrev pub Leaves : Type 0
-Leaves =
-    (one 26 12 .lent ≡ record { nodes = 1 ∷ 0 ∷ 9223372036854775808 ∷ 0 ∷ 0 ∷ 0 ∷ 9223372036854775810 ∷ 1 ∷ 0 ∷ 1 ∷ 9223372036854775810 ∷ 0 ∷ 1 ∷ 1 ∷ 18446744073709551615 ∷ 1 ∷ 1 ∷ 1 ∷ 9223372036854775808 ∷ 0 ∷ 2 ∷ 2 ∷ 18446744073709551615 ∷ 1 ∷ 7 ∷ 7 ∷ []; edges = 0 ∷ 1 ∷ 1 ∷ 2 ∷ 0 ∷ 0 ∷ 2 ∷ 0 ∷ 0 ∷ 0 ∷ 8 ∷ 8 ∷ []; records = old 5 ∷ [] })
-    × (one 23 10 ≡ record { answer = refused 11; lent = record { nodes = 1 ∷ 0 ∷ 9223372036854775808 ∷ 0 ∷ 0 ∷ 0 ∷ 9223372036854775810 ∷ 1 ∷ 0 ∷ 1 ∷ 9223372036854775810 ∷ 0 ∷ 1 ∷ 1 ∷ 18446744073709551615 ∷ 1 ∷ 7 ∷ 7 ∷ 7 ∷ 7 ∷ 7 ∷ 7 ∷ 7 ∷ []; edges = 0 ∷ 1 ∷ 1 ∷ 2 ∷ 0 ∷ 8 ∷ 8 ∷ 8 ∷ 8 ∷ 8 ∷ []; records = old 5 ∷ [] } })
-    × (one 24 9 ≡ record { answer = refused 12; lent = record { nodes = 1 ∷ 0 ∷ 9223372036854775808 ∷ 0 ∷ 0 ∷ 0 ∷ 9223372036854775810 ∷ 1 ∷ 0 ∷ 1 ∷ 9223372036854775810 ∷ 0 ∷ 1 ∷ 1 ∷ 18446744073709551615 ∷ 1 ∷ 7 ∷ 7 ∷ 7 ∷ 7 ∷ 7 ∷ 7 ∷ 7 ∷ 7 ∷ []; edges = 0 ∷ 1 ∷ 1 ∷ 2 ∷ 0 ∷ 8 ∷ 8 ∷ 8 ∷ 8 ∷ []; records = old 5 ∷ [] } })
+    (rootU s₀ (root ∷ old 6 ∷ old 7 ∷ []) (two ++ 7 ∷ []) ≡ see accepted (search (pos 3) true (4 ∷ 3 ∷ 1 ∷ replicate 61 0) 1 1) (U₂ ∷ old 6 ∷ old 7 ∷ []) (drainedU ++ 7 ∷ []))
+    × (at 1 1 (search (pos 5) false nothing 3 4) (H₁ ∷ H₂ ∷ U₁ ∷ old 7 ∷ []) one ≡ see accepted (search (pos 5) false nothing 2 5) (H₁ ∷ U₁ ∷ U₁ ∷ old 7 ∷ []) one)
+    × (first (search (pos 5) false nothing 1 1) (H₁ ∷ []) two ≡ see accepted (search (pos 7) true pathN 0 2) (H₁ ∷ []) two)

@@ -1,6 +1,5 @@
--- The search: records in the places of a list, compile into such a list, start, pick, their rows of the table of refusals, and what a host does with them one after the other.
+-- The search: records in the places of a list, start, pick, their rows of the table of refusals, and what a host does with them one after the other.
 pub mod Places
-pub mod Compile
 pub mod Search
 pub mod Start
 pub mod Pick

@@ -1,21 +1,19 @@
 -- The call `pick`: its answer, and the search, the list, the scratch list and the tables after it, for every input and every old content.
 use mathlib.Core.Bool.{Bool, true, false, not, cond, _||_}
-use mathlib.Core.List.{List, [], _∷_, _++_}
+use mathlib.Core.List.{List, [], _∷_, _++_, map}
 use mathlib.Core.Option.{Option, none, some}
 use Prim.Native.Nat.{ℕ, suc, _-_}
 use lib.Dec.{leb, ltb, eqb}
 use lib.IntN.{ℤ}
 use lib.ListN.{length, getD}
-use lib.Signed.{ltZ, leZ}
+use lib.Signed.{ltZ}
 use Rattle.diagram.specs.Run.{relaxing}
 use Rattle.diagram.specs.After4.{CutsetKind}
-use Rattle.layout.specs.Table.{over}
 use Rattle.calls.specs.Asked.{Problem, Given}
 use Rattle.calls.specs.Refusals.{Check, firstOf, problemChecks, recordChecks}
 use Rattle.calls.specs.Compile as Call
-use Rattle.calls.specs.Compile.{Request, Compiled, refused, compiled}
-use Rattle.searches.specs.Places.{Place, givenAt, noPlace, overPlaces}
-use Rattle.searches.specs.Compile.{Lent, Effect, roomsOf, compileEffect}
+use Rattle.calls.specs.Compile.{Request, Lent, roomsOf, refused, compiled, Effect, compileEffect, after}
+use Rattle.searches.specs.Places.{Place, givenAt, placeOf, noPlace, overPlaces}
 use Rattle.searches.specs.Search.{Search, mostPicks, openIn, without, aboveBest}
 
 -- What a pick is asked: the block problem, the cutset kind and which open record, by its place.
@@ -24,7 +22,7 @@ pub record Asked : Type 0 where
   pub kind : CutsetKind
   pub place : ℕ
 
--- What is lent: the list of open records; the scratch list and the tables, as compile has them.
+-- What is lent: the list of open records; the tables and the scratch list, which is the compile's record list.
 pub record Held : Type 0 where
   pub list : List Place
   pub lent : Lent
@@ -84,17 +82,17 @@ ifRoom false s s₁ left list l = refusing 13 s list l
 unfoldable pub appended : Bool → ℤ → List Place → List Place
 appended exact best drained = cond exact [] (aboveBest best drained)
 
--- what is lent after the compile
-unfoldable pub lentAfter : Effect → Lent → Lent
-lentAfter e l = record { nodes = over (e .nodes) (l .nodes); edges = over (e .edges) (l .edges); records = overPlaces (e .records) (l .records) }
+-- the drained records, as they stand in places
+unfoldable pub drainedPlaces : Effect → List Place
+drainedPlaces e = map placeOf (e .drained)
 
 -- after the compile of the picked record: rest are the other open records
 unfoldable pub afterCompile : Call.Answer → Effect → Search → List Place → Held → After
-afterCompile (refused n) e s rest h = refusing n s (h .list) (lentAfter e (h .lent))
+afterCompile (refused n) e s rest h = refusing n s (h .list) (after e (h .lent) .lent)
 afterCompile (compiled c) e s rest h =
     let s₁ = better (c .bestExact) (c .exactPath) s in
-    let left = rest ++ appended (c .exact) (s₁ .best) (e .records) in
-    ifRoom (leb (length left) (length (h .list))) s s₁ left (h .list) (lentAfter e (h .lent))
+    let left = rest ++ appended (c .exact) (s₁ .best) (drainedPlaces e) in
+    ifRoom (leb (length left) (length (h .list))) s s₁ left (h .list) (after e (h .lent) .lent)
 
 -- 'If its bound is at most the best value, that is all, and tables and scratch list are untouched. Else it is compiled'
 unfoldable pub ifAbove : Bool → Asked → Search → Given → List Place → Held → After

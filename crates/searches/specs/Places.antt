@@ -1,5 +1,5 @@
 -- 'Open records are a lent list of record structs': what stands in a place of such a list, and which record that is.
-use mathlib.Core.List.{List, [], _++_, map}
+use mathlib.Core.List.{List, [], _++_}
 use Prim.Native.Nat.{ℕ}
 use lib.IntN.{ℤ, pos}
 use lib.ListN.{length, take, drop}

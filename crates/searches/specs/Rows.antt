@@ -7,11 +7,10 @@ use lib.ListN.{length}
 use lib.Signed.{_<ℤ_}
 use Rattle.diagram.specs.After6.{Outcome, drained, finished}
 use Rattle.calls.specs.Asked.{Problem}
-use Rattle.calls.specs.Compile.{Request, Compiled, compiledOf, runOf}
+use Rattle.calls.specs.Compile.{Request, roomsOf, Compiled, compiledOf, runOf}
 use Rattle.calls.specs.RunRows.{Row10, Row11, Row12, Row13}
 use Rattle.calls.specs.Table.{Row, row, problemRows, recordRows}
 use Rattle.searches.specs.Places.{Place, placeOf}
-use Rattle.searches.specs.Compile.{roomsOf}
 use Rattle.searches.specs.Search.{Search, mostPicks, openIn, without}
 use Rattle.searches.specs.Pick.{Asked, Held, pickedFrom, requestFor, better, appended}
 

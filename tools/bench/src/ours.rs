@@ -1,6 +1,6 @@
 //! Our side: the proved code, over tables and lists that are lent once and used again and again.
 
-use jambtulip::tables::{EDGE_WORDS, NODE_WORDS};
+use jambtulip::tables::{record_words, EDGE_WORDS, NODE_WORDS};
 use jambtulip::{compile, pick, start, Found, Items, Lists, Question, Record, Refusal, Search, Tables, Terms};
 
 use crate::blocks::Blocks;
@@ -13,7 +13,7 @@ pub struct Ours<'a> {
     nodes: Vec<u64>,
     edges: Vec<u64>,
     pub open: Vec<Record>,
-    pub scratch: Vec<Record>,
+    pub scratch: Vec<u64>,
 }
 
 impl<'a> Ours<'a> {
@@ -26,7 +26,7 @@ impl<'a> Ours<'a> {
             nodes: vec![0; rows * NODE_WORDS],
             edges: vec![0; items * 4 * most * EDGE_WORDS],
             open: vec![Record::EMPTY; OPEN_PLACES],
-            scratch: vec![Record::EMPTY; rows],
+            scratch: vec![0; record_words(rows)],
         }
     }
 
@@ -34,7 +34,7 @@ impl<'a> Ours<'a> {
     pub fn clear(&mut self) {
         self.nodes.fill(0);
         self.edges.fill(0);
-        self.scratch.fill(Record::EMPTY);
+        self.scratch.fill(0);
     }
 
     /// Compiles; the drained records stand in `scratch`.

@@ -3,6 +3,7 @@
 use std::fmt::Debug;
 
 use ddo::{Decision, DecisionDiagram, Solution, State, SubProblem};
+use jambtulip::tables::records;
 use jambtulip::{Found, Mode, Question, Record, Terms};
 
 use crate::knapsack::number_of;
@@ -35,14 +36,15 @@ fn value_of(best: &Option<(isize, Solution)>) -> (u64, i64, [u8; 64]) {
 }
 
 /// Asserts that a compile answered the same and made as many nodes, edges and layers, and gives the number of nodes.
-pub fn compiled<D: Debug>(found: &Found, drained: &[Record], theirs: &Theirs<D>, answer: &Compiled) -> usize {
+pub fn compiled<D: Debug>(found: &Found, drained: &[u64], theirs: &Theirs<D>, answer: &Compiled) -> usize {
     let tables = Tables::of(&theirs.diagram);
     assert_eq!(found.exact, u64::from(answer.exact));
     assert_eq!((found.has_best, found.best, found.path), value_of(&answer.best));
     assert_eq!((found.has_best_exact, found.best_exact, found.exact_path), value_of(&answer.best_exact));
     assert_eq!((found.nodes, found.edges, found.layers), (tables.nodes.len(), tables.edges.len(), tables.layers.len()));
-    let records: Vec<Record> = answer.drained.iter().map(record_of).collect();
-    assert_eq!(drained[..found.drained], records);
+    let drained: Vec<Record> = records(drained).take(found.drained).collect();
+    let due: Vec<Record> = answer.drained.iter().map(record_of).collect();
+    assert_eq!(drained, due);
     found.nodes
 }
 

@@ -159,7 +159,7 @@ extern "C" {
     fn jambtulip_compile(
         weights: *const u64, weights_len: usize, profits: *const u64, profits_len: usize,
         nodes: *mut u64, nodes_len: usize, edges: *mut u64, edges_len: usize,
-        records: *mut Record, records_len: usize,
+        records: *mut u64, records_len: usize,
         question: Question, found: *mut Found,
     ) -> u64;
 
@@ -172,14 +172,14 @@ extern "C" {
     fn jambtulip_pick(
         weights: *const u64, weights_len: usize, profits: *const u64, profits_len: usize,
         nodes: *mut u64, nodes_len: usize, edges: *mut u64, edges_len: usize,
-        list: *mut Record, list_len: usize, scratch: *mut Record, scratch_len: usize,
+        list: *mut Record, list_len: usize, scratch: *mut u64, scratch_len: usize,
         terms: Terms, place: usize, search: *mut Search,
     ) -> u64;
 
     fn jambtulip_run_job(
         text: *const u8, text_len: usize,
         nodes: *mut u64, nodes_len: usize, edges: *mut u64, edges_len: usize,
-        list: *mut Record, list_len: usize, scratch: *mut Record, scratch_len: usize,
+        list: *mut Record, list_len: usize, scratch: *mut u64, scratch_len: usize,
         page: *mut Page,
     ) -> u64;
 }
@@ -187,7 +187,7 @@ extern "C" {
 // SAFETY, of each call below: a slice's pointer is not null, aligned and good for its length, even for length 0; what is lent mutably overlaps
 // nothing else that is lent; the library answers every input, keeps no pointer, and writes only what is lent, in which every bit pattern is a value.
 
-pub fn compile(items: Items, tables: &mut Tables, records: &mut [Record], question: Question, found: &mut Found) -> u64 {
+pub fn compile(items: Items, tables: &mut Tables, records: &mut [u64], question: Question, found: &mut Found) -> u64 {
     let Items { weights, profits } = items;
     let Tables { nodes, edges } = tables;
     unsafe {

@@ -24,14 +24,15 @@ pub struct Tables<'a> {
     pub edges: &'a mut [u64],
 }
 
-/// The lent lists of a search: the open records, and where a pick drains its records.
+/// The lent lists of a search: the open records, and the record list of a pick's compile, 68 words to a record.
 pub struct Lists<'a> {
     pub open: &'a mut [Record],
-    pub scratch: &'a mut [Record],
+    pub scratch: &'a mut [u64],
 }
 
-/// Compiles `question.root`. The drained records are the first `drained` of `records`.
-pub fn compile(items: Items, tables: &mut Tables, records: &mut [Record], question: Question) -> Result<Found, Refusal> {
+/// Compiles `question.root` into the tables and a record list, 68 words to a record. The drained records are the first `drained` that
+/// `tables::records` reads there; refused, the list stays as it is.
+pub fn compile(items: Items, tables: &mut Tables, records: &mut [u64], question: Question) -> Result<Found, Refusal> {
     let mut found = Found::NOTHING;
     accepted(border::compile(items, tables, records, question, &mut found)).map(|()| found)
 }

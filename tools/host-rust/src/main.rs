@@ -9,7 +9,7 @@ use std::fs::File;
 use std::io::{self, stdin, stdout, Read, Write};
 use std::process::exit;
 
-use jambtulip::tables::{EDGE_WORDS, NODE_WORDS};
+use jambtulip::tables::{record_words, EDGE_WORDS, NODE_WORDS};
 use jambtulip::{pick, run_job, start, Items, Lists, Page, Record, Refusal, Search, Tables};
 
 use job::Job;
@@ -72,7 +72,7 @@ fn answer_whole(text: &[u8]) -> Vec<u8> {
 /// What `act` gives over fresh tables and lists.
 fn lending<T>(act: impl FnOnce(&mut Tables, &mut Lists) -> T) -> T {
     let (mut nodes, mut edges) = (vec![0; NODE_ROWS * NODE_WORDS], vec![0; EDGE_ROWS * EDGE_WORDS]);
-    let (mut open, mut scratch) = (vec![Record::EMPTY; OPEN_PLACES], vec![Record::EMPTY; SCRATCH_PLACES]);
+    let (mut open, mut scratch) = (vec![Record::EMPTY; OPEN_PLACES], vec![0; record_words(SCRATCH_PLACES)]);
     act(&mut Tables { nodes: &mut nodes, edges: &mut edges }, &mut Lists { open: &mut open, scratch: &mut scratch })
 }
 

@@ -1,8 +1,18 @@
-//! How to read the words of the tables.
+//! How to read the words of tables and record lists.
 
-/// Words to a node row, and to an edge row.
+use std::array::from_fn;
+
+use crate::Record;
+
+/// Words to a node row, to an edge row, and to a record.
 pub const NODE_WORDS: usize = 8;
 pub const EDGE_WORDS: usize = 5;
+pub const RECORD_WORDS: usize = 68;
+
+/// How many words a record list of so many places has.
+pub const fn record_words(places: usize) -> usize {
+    places * RECORD_WORDS
+}
 
 /// A node's flags.
 pub const IS_EXACT: u64 = 1;
@@ -51,6 +61,17 @@ pub fn nodes(words: &[u64]) -> impl Iterator<Item = Node> + '_ {
 /// The rows of an edge table.
 pub fn edges(words: &[u64]) -> impl Iterator<Item = Edge> + '_ {
     words.chunks_exact(EDGE_WORDS).map(|w| Edge { from: w[0], to: w[1], decision: w[2], cost: w[3], next_older: edge(w[4]) })
+}
+
+/// The records of a record list: `records(words).nth(place)` is the one in a place, `None` behind the last whole place.
+pub fn records(words: &[u64]) -> impl Iterator<Item = Record> + '_ {
+    words.chunks_exact(RECORD_WORDS).map(|w| Record {
+        capacity: w[0],
+        value: number(w[1]),
+        bound: number(w[2]),
+        depth: w[3],
+        path: from_fn(|place| w[4 + place] as u8), // a byte to a word
+    })
 }
 
 /// An i64 stands in a word as its number + 2^63.

@@ -1,26 +1,32 @@
-//! That this crate's structs and its reading of the tables agree with what the library writes, on case H.
+//! That this crate's structs and its reading of tables and record lists agree with what the library writes, on case H.
 
-use jambtulip::tables::{edges, nodes, Edge, Node, IS_CUTSET, IS_DELETED, IS_EXACT, IS_MARKED, IS_RELAXED};
-use jambtulip::{compile, Cut, Found, Items, Mode, Question, Record, Refusal, Tables};
+use jambtulip::tables::{edges, nodes, record_words, records, Edge, Node, IS_CUTSET, IS_DELETED, IS_EXACT, IS_MARKED, IS_RELAXED};
+use jambtulip::{compile, pick, start, Cut, Found, Items, Lists, Mode, Question, Record, Refusal, Tables, Terms};
 
 const ITEMS: Items = Items { weights: &[1, 1, 1], profits: &[4, 3, 2] };
 
 const ASKED: Question =
     Question { page: 2, width: 1, mode: Mode::Relaxed, cut: Cut::LastExactLayer, lower: i64::MIN, root: Record::root(2) };
 
-const OLD: Record = Record { capacity: 7, value: 7, bound: 7, depth: 7, path: [7; 64] };
+/// Words of a record list with two places.
+const WORDS: usize = record_words(2);
 
 struct Compiled {
     answer: Result<Found, Refusal>,
     nodes: [u64; 72],
     edges: [u64; 60],
-    records: [Record; 2],
+    records: [u64; WORDS],
+}
+
+/// A compile that is lent so many words of the record list.
+fn compiled_in(words: usize, question: Question) -> Compiled {
+    let (mut nodes, mut edges, mut records) = ([7; 72], [7; 60], [7; WORDS]);
+    let answer = compile(ITEMS, &mut Tables { nodes: &mut nodes, edges: &mut edges }, &mut records[..words], question);
+    Compiled { answer, nodes, edges, records }
 }
 
 fn compiled(question: Question) -> Compiled {
-    let (mut nodes, mut edges, mut records) = ([7; 72], [7; 60], [OLD; 2]);
-    let answer = compile(ITEMS, &mut Tables { nodes: &mut nodes, edges: &mut edges }, &mut records, question);
-    Compiled { answer, nodes, edges, records }
+    compiled_in(WORDS, question)
 }
 
 /// The bytes, and zeros behind them.
@@ -56,11 +62,29 @@ fn the_answer() {
     assert_eq!(compiled(ASKED).answer, Ok(due));
 }
 
-#[test]
-fn the_records() {
+fn drained() -> [Record; 2] {
     let first = Record { capacity: 1, value: 4, bound: 9, depth: 1, path: path(&[1]) };
     let second = Record { capacity: 2, value: 0, bound: 5, depth: 1, path: path(&[0]) };
-    assert_eq!(compiled(ASKED).records, [first, second]);
+    [first, second]
+}
+
+#[test]
+fn the_records() {
+    let words = compiled(ASKED).records;
+    assert_eq!(records(&words).collect::<Vec<_>>(), drained());
+    assert_eq!(records(&words[..WORDS - 1]).nth(1), None);
+}
+
+/// The first pick of a search drains the same records, and opens both.
+#[test]
+fn the_open_records() {
+    let terms = Terms { page: ASKED.page, width: ASKED.width, cut: ASKED.cut };
+    let (mut nodes, mut edges, mut open, mut scratch) = ([7; 72], [7; 60], [Record::EMPTY; 2], [7; WORDS]);
+    let mut search = start(ITEMS, terms, i64::MIN, &mut open).unwrap();
+    assert_eq!(open, [Record::root(2), Record::EMPTY]);
+    let mut lists = Lists { open: &mut open, scratch: &mut scratch };
+    assert_eq!(pick(ITEMS, &mut Tables { nodes: &mut nodes, edges: &mut edges }, &mut lists, terms, 0, &mut search), Ok(()));
+    assert_eq!((search.opened, open, scratch), (2, drained(), compiled(ASKED).records));
 }
 
 fn node(capacity: u64, depth: u64, values: [i64; 2], edges: [Option<u64>; 2], fast_bound: i64, flags: u64) -> Node {
@@ -90,5 +114,11 @@ fn the_edges() {
 fn a_refusal() {
     let wide = compiled(Question { width: 257, ..ASKED });
     assert_eq!(wide.answer, Err(Refusal(6)));
-    assert_eq!((wide.nodes, wide.edges, wide.records), ([7; 72], [7; 60], [OLD; 2]));
+    assert_eq!((wide.nodes, wide.edges, wide.records), ([7; 72], [7; 60], [7; WORDS]));
+}
+
+#[test]
+fn a_record_list_a_word_short() {
+    let short = compiled_in(WORDS - 1, ASKED);
+    assert_eq!((short.answer, short.records), (Err(Refusal(13)), [7; WORDS]));
 }

@@ -1,5 +1,5 @@
--- `cutset::drain` meets its contract: counted first, then, if the list has places for all, flagged anew and written.
-use Rattle.cutset.proofs.Whole.{count-first, too-many, window-asked, all-drained}
+-- `cutset::drain` meets its contract: counted first, then, if the list has places for all, flagged anew and written. Without its flags the table holds the diagram that was traversed first, so the second traversal sets the same flags.
+use Rattle.cutset.proofs.Whole.{count-first, too-many, clear-asked, list-again, all-drained}
 use borrow.Author.Needs.{needs}
 use Rattle.cutset.proofs.drain.Statement.{statement}
 use Rattle.cutset.proofs.drain.Tie as tie
@@ -16,9 +16,15 @@ same-length-2 c = search needs
 returns : tie.Need-returns
 returns c = too-many _ _ _ _ _ _ _ _ _ _ _ (c .before .before .before .before .before .before .flag-cutset .ensures) (c .if1 .taken)
 
-drain-window-requires : tie.Need-drain-window-requires
-drain-window-requires c κs =
-    window-asked _ _ _ _ _ _ _ _ _ _ _ (c .before .before .before .before .before .before .before .before .flag-cutset .ensures) (c .before .before .before .before .before .before .before .before .before .before .before .before .before .before .pre)
+clear-flags-requires : tie.Need-clear-flags-requires
+clear-flags-requires c κs =
+    let s = c .before .before .before .before .before .before .before .before .before .before .before .before .before in
+    clear-asked _ _ _ (s .args .kind) _ _ _ _ _ _ _ (c .before .before .before .before .before .before .before .flag-cutset .ensures) (s .pre)
+
+traverse-requires : tie.Need-traverse-requires
+traverse-requires c κs =
+    let s = c .before .before .before .before .before .before .before .before .before .before .before .before .before .before .before .before .before .before in
+    list-again _ _ _ (s .args .kind) _ _ _ _ _ _ _ (c .before .before .before .before .before .before .before .before .before .before .before .before .flag-cutset .ensures) _ (c .before .before .before .before .clear-flags .ensures) (s .pre)
 
 same-length-3 : tie.Need-same-length-3
 same-length-3 c = search needs
@@ -27,8 +33,7 @@ same-length-4 : tie.Need-same-length-4
 same-length-4 c = search needs
 
 returns-2 : tie.Need-returns-2
-returns-2 c =
-    all-drained _ _ _ _ _ _ _ _ _ _ _ (c .before .before .before .before .before .before .before .before .before .before .before .before .before .flag-cutset .ensures) _ _ _ (c .before .before .before .before .before .before .before .before .before .before .before .before .before .before .before .before .before .before .before .pre .from-start) (c .before .before .before .before .before .before .before .if1 .left) (c .before .before .before .before .drain-window .ensures)
+returns-2 c = all-drained _ _ _ _ _ _ _ _ _ _ _ (c .before .before .before .before .before .before .before .before .before .before .before .before .before .before .before .before .before .flag-cutset .ensures) _ _ _ _ (c .before .before .before .before .before .before .before .before .before .before .before .if1 .left) (c .before .before .before .before .before .before .before .before .before .clear-flags .ensures) (c .before .before .before .before .traverse .ensures)
 
 pub drain-spec : {M : Type 1} → statement M
 drain-spec =
@@ -38,7 +43,8 @@ drain-spec =
     same-length
     same-length-2
     returns
-    drain-window-requires
+    clear-flags-requires
+    traverse-requires
     same-length-3
     same-length-4
     returns-2)

@@ -57,7 +57,7 @@ mod Walk
 module _ {M : Type 1} (𝓤 : URA M) (H : Heap 𝓤) (A : Atoms 𝓤) (W : Given 𝓤 H A) (mem : Memory → SProp 𝓤) (run : Routine → Fun 𝓤) (𝓣 : Tables 𝓤 H) (known : Known 𝓤 H A mem run 𝓣) where
   walk : (p : Passed) → ent 𝓤 (onEntry 𝓤 H A f.signature (lfts p) (parts p) (args p) (vals p)) (WpFn 𝓤 H (𝓣 .C) (𝓣 .Λ) code.function (passed-vals p) (Post 𝓤 H A mem run p))
   walk p =
-      qed W ((‵ (flft (p .κ₀) (p .q₀)) ⊛ (‵ (flft (p .κ₁) (p .q₁)) ⊛ (‵ (flft (p .κ₂) (p .q₂)) ⊛ (‵ (flft (p .κ₃) (p .q₃)) ⊛ (‵ (flft (p .κ₄) (p .q₄)) ⊛ (‵ (flft (p .κ₅) (p .q₅)) ⊛ (‵ (flft (p .κ₆) (p .q₆)) ⊛ ‵ ftrue))))))) ∷ ‵ (owns (ShrSlice (named 0) (p .κ₀) u64 ∷ ShrSlice (named 1) (p .κ₁) u64 ∷ MutSlice (named 2) (p .κ₂) u64 ∷ MutSlice (named 3) (p .κ₃) u64 ∷ MutSlice (named 4) (p .κ₄) T.the-row ∷ MutSlice (named 5) (p .κ₅) T.the-row ∷ Te.the-row ∷ usize ∷ MutRef (named 6) (p .κ₆) Hs.the-row ∷ []) (args p) (vals p)) ∷ []) ∵
+      qed W ((‵ (flft (p .κ₀) (p .q₀)) ⊛ (‵ (flft (p .κ₁) (p .q₁)) ⊛ (‵ (flft (p .κ₂) (p .q₂)) ⊛ (‵ (flft (p .κ₃) (p .q₃)) ⊛ (‵ (flft (p .κ₄) (p .q₄)) ⊛ (‵ (flft (p .κ₅) (p .q₅)) ⊛ (‵ (flft (p .κ₆) (p .q₆)) ⊛ ‵ ftrue))))))) ∷ ‵ (owns (ShrSlice (named 0) (p .κ₀) u64 ∷ ShrSlice (named 1) (p .κ₁) u64 ∷ MutSlice (named 2) (p .κ₂) u64 ∷ MutSlice (named 3) (p .κ₃) u64 ∷ MutSlice (named 4) (p .κ₄) T.the-row ∷ MutSlice (named 5) (p .κ₅) u64 ∷ Te.the-row ∷ usize ∷ MutRef (named 6) (p .κ₆) Hs.the-row ∷ []) (args p) (vals p)) ∷ []) ∵
       split ! $ move ! (1 ∷ []) $ split ! $ move ! (1 ∷ []) $ split ! $ move ! (1 ∷ []) $ split ! $ move ! (1 ∷ []) $ split ! $ move ! (1 ∷ []) $ split ! $ move ! (1 ∷ []) $ split ! $ move ! (8 ∷ []) $ fsplit ! $ move ! (1 ∷ []) $ fsplit ! $ move ! (1 ∷ []) $ fsplit ! $ move ! (1 ∷ []) $ fsplit ! $ move ! (1 ∷ []) $ fsplit ! $ move ! (1 ∷ []) $ fsplit ! $ move ! (1 ∷ []) $ fsplit ! $ move ! (1 ∷ []) $ fsplit ! $ move ! (1 ∷ []) $ fsplit ! $ fsplit3 ! $ drop ! $ keep ! (0 ∷ 1 ∷ 11 ∷ 18 ∷ 17 ∷ 16 ∷ 15 ∷ 14 ∷ 13 ∷ 10 ∷ 9 ∷ 8 ∷ 7 ∷ 6 ∷ 5 ∷ []) $
       enter ! (𝓣 .C) (𝓣 .Λ) code.function (passed-vals p) (Post 𝓤 H A mem run p) $
       subst (λ (ls : List Local). Sq W (Taken 𝓤 H A W mem run p 𝓣 known) (allocs ls (Runs 𝓤 H A W mem run p 𝓣 known))) same-locals (entered 𝓤 H A W mem run p 𝓣 known)
@@ -66,7 +66,7 @@ module _ {M : Type 1} (𝓤 : URA M) (H : Heap 𝓤) (A : Atoms 𝓤) (W : Given
   jambtulip-pick-walks =
       walked 𝓤 H A f.ended stayed (f.clauses 𝓤 H A mem run) (WpFn 𝓤 H (𝓣 .C) (𝓣 .Λ) code.function)
       (λ κs. (slice-vals, (slice-vals, (slice-vals, (slice-vals, (slice-vals, (slice-vals, (LL.vals Te.the-type Te′.the-laws, (uint-vals w64, (ptr-vals, tt))))))))))
-      (λ κs. (shr-slice-tells (named 0) (κs .0) u64, (shr-slice-tells (named 1) (κs .1 .0) u64, (mut-slice-tells (named 2) (κs .1 .1 .0) u64, (mut-slice-tells (named 3) (κs .1 .1 .1 .0) u64, (mut-slice-tells (named 4) (κs .1 .1 .1 .1 .0) T.the-row, (mut-slice-tells (named 5) (κs .1 .1 .1 .1 .1 .0) T.the-row, (LL.tells Te.the-type Te′.the-laws, (uint-tells w64, (mut-tells (named 6) (κs .1 .1 .1 .1 .1 .1 .0) Hs.the-row, tt))))))))))
+      (λ κs. (shr-slice-tells (named 0) (κs .0) u64, (shr-slice-tells (named 1) (κs .1 .0) u64, (mut-slice-tells (named 2) (κs .1 .1 .0) u64, (mut-slice-tells (named 3) (κs .1 .1 .1 .0) u64, (mut-slice-tells (named 4) (κs .1 .1 .1 .1 .0) T.the-row, (mut-slice-tells (named 5) (κs .1 .1 .1 .1 .1 .0) u64, (LL.tells Te.the-type Te′.the-laws, (uint-tells w64, (mut-tells (named 6) (κs .1 .1 .1 .1 .1 .1 .0) Hs.the-row, tt))))))))))
       (λ κs qs bounds a g are. via 𝓤 _ (fst∗ 𝓤 _ (emp 𝓤)) (walk record {
         κ₀ = κs .0;
         κ₁ = κs .1 .0;
@@ -106,7 +106,7 @@ module _ {M : Type 1} (𝓤 : URA M) (H : Heap 𝓤) (A : Atoms 𝓤) (W : Given
       }))
 
   goes : AllGo 𝓤 H A W 7 (f.signature .params) (f.ended .kept) stayed
-  goes = (goes-dropped 𝓤 H A W 7 (shrSliceOf (0 ∷ []) tt (plain (λ _. u64))) yes (λ κs x f. refl), (goes-dropped 𝓤 H A W 7 (shrSliceOf (1 ∷ []) tt (plain (λ _. u64))) yes (λ κs x f. refl), (goes-gave-slice 𝓤 H A W 7 2 tt (plain (λ _. u64)), (goes-gave-slice 𝓤 H A W 7 3 tt (plain (λ _. u64)), (goes-gave-slice 𝓤 H A W 7 4 tt (plain (λ _. T.the-row)), (goes-gave-slice 𝓤 H A W 7 5 tt (plain (λ _. T.the-row)), (goes-dropped 𝓤 H A W 7 (plain (λ _. Te.the-row)) yes (λ κs x f. refl), (goes-dropped 𝓤 H A W 7 (plain (λ _. usize)) yes (λ κs x f. refl), (goes-ref 𝓤 H A W 7 6 tt (plain (λ _. Hs.the-row)), tt)))))))))
+  goes = (goes-dropped 𝓤 H A W 7 (shrSliceOf (0 ∷ []) tt (plain (λ _. u64))) yes (λ κs x f. refl), (goes-dropped 𝓤 H A W 7 (shrSliceOf (1 ∷ []) tt (plain (λ _. u64))) yes (λ κs x f. refl), (goes-gave-slice 𝓤 H A W 7 2 tt (plain (λ _. u64)), (goes-gave-slice 𝓤 H A W 7 3 tt (plain (λ _. u64)), (goes-gave-slice 𝓤 H A W 7 4 tt (plain (λ _. T.the-row)), (goes-gave-slice 𝓤 H A W 7 5 tt (plain (λ _. u64)), (goes-dropped 𝓤 H A W 7 (plain (λ _. Te.the-row)) yes (λ κs x f. refl), (goes-dropped 𝓤 H A W 7 (plain (λ _. usize)) yes (λ κs x f. refl), (goes-ref 𝓤 H A W 7 6 tt (plain (λ _. Hs.the-row)), tt)))))))))
 
   jambtulip-pick-meets : Meets 𝓤 H A f.signature (WpFn 𝓤 H (𝓣 .C) (𝓣 .Λ) code.function) (f.spec 𝓤 H A mem run)
   jambtulip-pick-meets = walk-meets 𝓤 H A f.ended stayed W goes (f.clauses 𝓤 H A mem run) (WpFn 𝓤 H (𝓣 .C) (𝓣 .Λ) code.function) (WpFn-mono 𝓤 H (W .laws) 𝓣 code.function) jambtulip-pick-walks

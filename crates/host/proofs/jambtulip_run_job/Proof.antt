@@ -53,7 +53,7 @@ mod Walk
 module _ {M : Type 1} (𝓤 : URA M) (H : Heap 𝓤) (A : Atoms 𝓤) (W : Given 𝓤 H A) (mem : Memory → SProp 𝓤) (run : Routine → Fun 𝓤) (𝓣 : Tables 𝓤 H) (known : Known 𝓤 H A mem run 𝓣) where
   walk : (p : Passed) → ent 𝓤 (onEntry 𝓤 H A f.signature (lfts p) (parts p) (args p) (vals p)) (WpFn 𝓤 H (𝓣 .C) (𝓣 .Λ) code.function (passed-vals p) (Post 𝓤 H A mem run p))
   walk p =
-      qed W ((‵ (flft (p .κ₀) (p .q₀)) ⊛ (‵ (flft (p .κ₁) (p .q₁)) ⊛ (‵ (flft (p .κ₂) (p .q₂)) ⊛ (‵ (flft (p .κ₃) (p .q₃)) ⊛ (‵ (flft (p .κ₄) (p .q₄)) ⊛ (‵ (flft (p .κ₅) (p .q₅)) ⊛ ‵ ftrue)))))) ∷ ‵ (owns (ShrSlice (named 0) (p .κ₀) u8 ∷ MutSlice (named 1) (p .κ₁) u64 ∷ MutSlice (named 2) (p .κ₂) u64 ∷ MutSlice (named 3) (p .κ₃) T.the-row ∷ MutSlice (named 4) (p .κ₄) T.the-row ∷ MutRef (named 5) (p .κ₅) Pa.the-row ∷ []) (args p) (vals p)) ∷ []) ∵
+      qed W ((‵ (flft (p .κ₀) (p .q₀)) ⊛ (‵ (flft (p .κ₁) (p .q₁)) ⊛ (‵ (flft (p .κ₂) (p .q₂)) ⊛ (‵ (flft (p .κ₃) (p .q₃)) ⊛ (‵ (flft (p .κ₄) (p .q₄)) ⊛ (‵ (flft (p .κ₅) (p .q₅)) ⊛ ‵ ftrue)))))) ∷ ‵ (owns (ShrSlice (named 0) (p .κ₀) u8 ∷ MutSlice (named 1) (p .κ₁) u64 ∷ MutSlice (named 2) (p .κ₂) u64 ∷ MutSlice (named 3) (p .κ₃) T.the-row ∷ MutSlice (named 4) (p .κ₄) u64 ∷ MutRef (named 5) (p .κ₅) Pa.the-row ∷ []) (args p) (vals p)) ∷ []) ∵
       split ! $ move ! (1 ∷ []) $ split ! $ move ! (1 ∷ []) $ split ! $ move ! (1 ∷ []) $ split ! $ move ! (1 ∷ []) $ split ! $ move ! (1 ∷ []) $ split ! $ move ! (7 ∷ []) $ fsplit ! $ move ! (1 ∷ []) $ fsplit ! $ move ! (1 ∷ []) $ fsplit ! $ move ! (1 ∷ []) $ fsplit ! $ move ! (1 ∷ []) $ fsplit ! $ move ! (1 ∷ []) $ fsplit ! $ fsplit3 ! $ drop ! $ keep ! (0 ∷ 1 ∷ 8 ∷ 14 ∷ 13 ∷ 12 ∷ 11 ∷ 10 ∷ 7 ∷ 6 ∷ 5 ∷ 4 ∷ 3 ∷ []) $
       enter ! (𝓣 .C) (𝓣 .Λ) code.function (passed-vals p) (Post 𝓤 H A mem run p) $
       subst (λ (ls : List Local). Sq W (Taken 𝓤 H A W mem run p 𝓣 known) (allocs ls (Runs 𝓤 H A W mem run p 𝓣 known))) same-locals (entered 𝓤 H A W mem run p 𝓣 known)
@@ -62,7 +62,7 @@ module _ {M : Type 1} (𝓤 : URA M) (H : Heap 𝓤) (A : Atoms 𝓤) (W : Given
   jambtulip-run-job-walks =
       walked 𝓤 H A f.ended stayed (f.clauses 𝓤 H A mem run) (WpFn 𝓤 H (𝓣 .C) (𝓣 .Λ) code.function)
       (λ κs. (slice-vals, (slice-vals, (slice-vals, (slice-vals, (slice-vals, (ptr-vals, tt)))))))
-      (λ κs. (shr-slice-tells (named 0) (κs .0) u8, (mut-slice-tells (named 1) (κs .1 .0) u64, (mut-slice-tells (named 2) (κs .1 .1 .0) u64, (mut-slice-tells (named 3) (κs .1 .1 .1 .0) T.the-row, (mut-slice-tells (named 4) (κs .1 .1 .1 .1 .0) T.the-row, (mut-tells (named 5) (κs .1 .1 .1 .1 .1 .0) Pa.the-row, tt)))))))
+      (λ κs. (shr-slice-tells (named 0) (κs .0) u8, (mut-slice-tells (named 1) (κs .1 .0) u64, (mut-slice-tells (named 2) (κs .1 .1 .0) u64, (mut-slice-tells (named 3) (κs .1 .1 .1 .0) T.the-row, (mut-slice-tells (named 4) (κs .1 .1 .1 .1 .0) u64, (mut-tells (named 5) (κs .1 .1 .1 .1 .1 .0) Pa.the-row, tt)))))))
       (λ κs qs bounds a g are. via 𝓤 _ (fst∗ 𝓤 _ (emp 𝓤)) (walk record {
         κ₀ = κs .0;
         κ₁ = κs .1 .0;
@@ -93,7 +93,7 @@ module _ {M : Type 1} (𝓤 : URA M) (H : Heap 𝓤) (A : Atoms 𝓤) (W : Given
       }))
 
   goes : AllGo 𝓤 H A W 6 (f.signature .params) (f.ended .kept) stayed
-  goes = (goes-dropped 𝓤 H A W 6 (shrSliceOf (0 ∷ []) tt (plain (λ _. u8))) yes (λ κs x f. refl), (goes-gave-slice 𝓤 H A W 6 1 tt (plain (λ _. u64)), (goes-gave-slice 𝓤 H A W 6 2 tt (plain (λ _. u64)), (goes-gave-slice 𝓤 H A W 6 3 tt (plain (λ _. T.the-row)), (goes-gave-slice 𝓤 H A W 6 4 tt (plain (λ _. T.the-row)), (goes-ref 𝓤 H A W 6 5 tt (plain (λ _. Pa.the-row)), tt))))))
+  goes = (goes-dropped 𝓤 H A W 6 (shrSliceOf (0 ∷ []) tt (plain (λ _. u8))) yes (λ κs x f. refl), (goes-gave-slice 𝓤 H A W 6 1 tt (plain (λ _. u64)), (goes-gave-slice 𝓤 H A W 6 2 tt (plain (λ _. u64)), (goes-gave-slice 𝓤 H A W 6 3 tt (plain (λ _. T.the-row)), (goes-gave-slice 𝓤 H A W 6 4 tt (plain (λ _. u64)), (goes-ref 𝓤 H A W 6 5 tt (plain (λ _. Pa.the-row)), tt))))))
 
   jambtulip-run-job-meets : Meets 𝓤 H A f.signature (WpFn 𝓤 H (𝓣 .C) (𝓣 .Λ) code.function) (f.spec 𝓤 H A mem run)
   jambtulip-run-job-meets = walk-meets 𝓤 H A f.ended stayed W goes (f.clauses 𝓤 H A mem run) (WpFn 𝓤 H (𝓣 .C) (𝓣 .Λ) code.function) (WpFn-mono 𝓤 H (W .laws) 𝓣 code.function) jambtulip-run-job-walks

@@ -47,7 +47,7 @@ use Rattle.searches.specs.Pick.{Held}
 use Rattle.search.specs.declared.Picked.{Picked}
 use Rattle.search.proofs.Picked as P
 use Rattle.search.proofs.Picked.Laws as P′
-use Rattle.pick.specs.Picks.{heldIn}
+use Rattle.pick_steps.specs.Tried.{heldIn}
 use Rattle.pick.proofs.Rows.{picked-makes, picked-typed}
 use Rattle.job_text.specs.declared.ReadJob.{ReadJob}
 use Rattle.job_run.specs.Runs.{leftIn}
@@ -78,7 +78,7 @@ use Rattle.job.proofs.run_if.Code.Mir as pieces
 -- of what was read nothing is kept to the end; a mutable slice is given up, with its last list told
 abbrev stayed : Stays (f.ended .signature .params) (f.ended .kept)
 stayed =
-    (stay-dropped (plain (λ _. R.the-row)) yes, (gave-slice (0 ∷ []) tt (plain (λ _. u64)), (gave-slice (1 ∷ []) tt (plain (λ _. u64)), (gave-slice (2 ∷ []) tt (plain (λ _. T.the-row)), (gave-slice (3 ∷ []) tt (plain (λ _. T.the-row)), tt)))))
+    (stay-dropped (plain (λ _. R.the-row)) yes, (gave-slice (0 ∷ []) tt (plain (λ _. u64)), (gave-slice (1 ∷ []) tt (plain (λ _. u64)), (gave-slice (2 ∷ []) tt (plain (λ _. T.the-row)), (gave-slice (3 ∷ []) tt (plain (λ _. u64)), tt)))))
 
 abbrev slice₁ : Ty
 slice₁ = sliceTy (tyRef (named 0) mut (pointee (u64 .written)))
@@ -90,7 +90,7 @@ abbrev slice₃ : Ty
 slice₃ = sliceTy (tyRef (named 2) mut (pointee (T.the-row .written)))
 
 abbrev slice₄ : Ty
-slice₄ = sliceTy (tyRef (named 3) mut (pointee (T.the-row .written)))
+slice₄ = sliceTy (tyRef (named 3) mut (pointee (u64 .written)))
 
 -- what is lent again to the call
 abbrev ref : Ty
@@ -122,10 +122,10 @@ module _ {M : Type 1} (𝓤 : URA M) (H : Heap 𝓤) (A : Atoms 𝓤) (mem : Mem
   told-run r t = exE 𝓤 _ (λ ws. snd∗ 𝓤 (sem 𝓤 H A (lasts g.ended tt (r, tt) ws)) (fact 𝓤 (t ≡ runs r)))
 
 -- The machine value x of what was read is a variable, so that no step computes with its fields.
-module _ {M : Type 1} (𝓤 : URA M) (H : Heap 𝓤) (A : Atoms 𝓤) (W : Given 𝓤 H A) (mem : Memory → SProp 𝓤) (run : Routine → Fun 𝓤) (κ₁ κ₂ κ₃ κ₄ : Lft) (s₁ s₂ s₃ s₄ : Share) (r : ReadJob) (ns es : RefT (List ℕ)) (rs xs : RefT (List Record)) (x : Val)
-    (r-is : Is R.the-row r (x ∷ [])) (room₁ : Room u64 (length (ns .now))) (room₂ : Room u64 (length (es .now))) (room₃ : Room T.the-row (length (rs .now))) (room₄ : Room T.the-row (length (xs .now))) where
+module _ {M : Type 1} (𝓤 : URA M) (H : Heap 𝓤) (A : Atoms 𝓤) (W : Given 𝓤 H A) (mem : Memory → SProp 𝓤) (run : Routine → Fun 𝓤) (κ₁ κ₂ κ₃ κ₄ : Lft) (s₁ s₂ s₃ s₄ : Share) (r : ReadJob) (ns es : RefT (List ℕ)) (rs : RefT (List Record)) (xs : RefT (List ℕ)) (x : Val)
+    (r-is : Is R.the-row r (x ∷ [])) (room₁ : Room u64 (length (ns .now))) (room₂ : Room u64 (length (es .now))) (room₃ : Room T.the-row (length (rs .now))) (room₄ : Room u64 (length (xs .now))) where
   abbrev held : Held
-  held = heldIn (places (rs .now)) (ns .now) (es .now) (places (xs .now))
+  held = heldIn (places (rs .now)) (ns .now) (es .now) (xs .now)
 
   abbrev v₁ : Val
   v₁ = sliceVal (ns .ptr) (length (ns .now))
@@ -139,14 +139,14 @@ module _ {M : Type 1} (𝓤 : URA M) (H : Heap 𝓤) (A : Atoms 𝓤) (W : Given
   abbrev v₄ : Val
   v₄ = sliceVal (xs .ptr) (length (xs .now))
 
-  abbrev args : ReadJob × (RefT (List ℕ) × (RefT (List ℕ) × (RefT (List Record) × (RefT (List Record) × Unit {0}))))
+  abbrev args : ReadJob × (RefT (List ℕ) × (RefT (List ℕ) × (RefT (List Record) × (RefT (List ℕ) × Unit {0}))))
   args = (r, (ns, (es, (rs, (xs, tt)))))
 
   abbrev vals : List Val × (List Val × (List Val × (List Val × (List Val × Unit {0}))))
   vals = (x ∷ [], (v₁ ∷ [], (v₂ ∷ [], (v₃ ∷ [], (v₄ ∷ [], tt)))))
 
   abbrev Owns : Fml
-  Owns = owns (R.the-row ∷ MutSlice (named 0) κ₁ u64 ∷ MutSlice (named 1) κ₂ u64 ∷ MutSlice (named 2) κ₃ T.the-row ∷ MutSlice (named 3) κ₄ T.the-row ∷ []) args vals
+  Owns = owns (R.the-row ∷ MutSlice (named 0) κ₁ u64 ∷ MutSlice (named 1) κ₂ u64 ∷ MutSlice (named 2) κ₃ T.the-row ∷ MutSlice (named 3) κ₄ u64 ∷ []) args vals
 
   abbrev tokens : Item 𝓤
   tokens = ‵ (flft κ₁ s₁) ⊛ (‵ (flft κ₂ s₂) ⊛ (‵ (flft κ₃ s₃) ⊛ (‵ (flft κ₄ s₄) ⊛ ‵ ftrue)))
@@ -185,7 +185,7 @@ module _ {M : Type 1} (𝓤 : URA M) (H : Heap 𝓤) (A : Atoms 𝓤) (W : Given
       fsplit ! $ use1 W (‵ (finally u64 (ns .name) (ns .now))) (gives-up 𝓤 H A W u64 (named 0) κ₁ ns (v₁ ∷ [])) $ move ! (1 ∷ []) $
       fsplit ! $ use1 W (‵ (finally u64 (es .name) (es .now))) (gives-up 𝓤 H A W u64 (named 1) κ₂ es (v₂ ∷ [])) $ move ! (1 ∷ []) $
       fsplit ! $ use1 W (‵ (finally T.the-row (rs .name) (rs .now))) (gives-up 𝓤 H A W T.the-row (named 2) κ₃ rs (v₃ ∷ [])) $ move ! (1 ∷ []) $
-      fsplit ! $ use1 W (‵ (finally T.the-row (xs .name) (xs .now))) (gives-up 𝓤 H A W T.the-row (named 3) κ₄ xs (v₄ ∷ [])) $ move ! (1 ∷ []) $ drop ! $
+      fsplit ! $ use1 W (‵ (finally u64 (xs .name) (xs .now))) (gives-up 𝓤 H A W u64 (named 3) κ₄ xs (v₄ ∷ [])) $ move ! (1 ∷ []) $ drop ! $
       -- [the scratch list's last value; the list's; the edges'; the nodes']
       nothing ! $ feqI ! ℕ (length (xs .now)) (length (xs .now)) refl $ move ! (2 ∷ 0 ∷ []) $ fjoin ! $ fjoin ! $
       feqI ! ℕ (length (rs .now)) (length (rs .now)) refl $ move ! (2 ∷ 0 ∷ []) $ fjoin ! $ fjoin ! $
@@ -211,7 +211,7 @@ module _ {M : Type 1} (𝓤 : URA M) (H : Heap 𝓤) (A : Atoms 𝓤) (W : Given
   module _ (𝓣 : Tables 𝓤 H) (l₀ l₁ l₂ l₃ l₄ l₅ l₆ l₇ l₈ l₉ l₁₀ l₁₁ l₁₂ l₁₃ l₁₄ l₁₅ : ℕ) where
     abbrev E : Env 𝓤 H
     E =
-        (P′.mir, l₀) ∷ (R′.mir, l₁) ∷ (slice₁, l₂) ∷ (slice₂, l₃) ∷ (slice₃, l₄) ∷ (slice₄, l₅) ∷ (tyBool, l₆) ∷ (P′.mir, l₇) ∷ (ref, l₈) ∷ (slice, l₉) ∷ (ref, l₁₀) ∷ (slice, l₁₁) ∷ (refR, l₁₂) ∷ (sliceR, l₁₃) ∷ (refR, l₁₄) ∷ (sliceR, l₁₅) ∷ []
+        (P′.mir, l₀) ∷ (R′.mir, l₁) ∷ (slice₁, l₂) ∷ (slice₂, l₃) ∷ (slice₃, l₄) ∷ (slice₄, l₅) ∷ (tyBool, l₆) ∷ (P′.mir, l₇) ∷ (ref, l₈) ∷ (slice, l₉) ∷ (ref, l₁₀) ∷ (slice, l₁₁) ∷ (refR, l₁₂) ∷ (sliceR, l₁₃) ∷ (ref, l₁₄) ∷ (slice, l₁₅) ∷ []
 
     -- the parameters in their locals, and room for the answer
     abbrev Passed : List (Item 𝓤) → List (Item 𝓤)
@@ -233,10 +233,10 @@ module _ {M : Type 1} (𝓤 : URA M) (H : Heap 𝓤) (A : Atoms 𝓤) (W : Given
     -- the locals that hold what is lent again, with nothing in them yet
     abbrev Lending : List (Item 𝓤) → List (Item 𝓤)
     Lending Γ =
-        ‵ (froom sliceR l₁₅ 0)
-        ∷ ‵ (fdies sliceR l₁₅)
-        ∷ ‵ (froom refR l₁₄ 0)
-        ∷ ‵ (fdies refR l₁₄)
+        ‵ (froom slice l₁₅ 0)
+        ∷ ‵ (fdies slice l₁₅)
+        ∷ ‵ (froom ref l₁₄ 0)
+        ∷ ‵ (fdies ref l₁₄)
         ∷ ‵ (froom sliceR l₁₃ 0)
         ∷ ‵ (fdies sliceR l₁₃)
         ∷ ‵ (froom refR l₁₂ 0)
@@ -333,7 +333,7 @@ module _ {M : Type 1} (𝓤 : URA M) (H : Heap 𝓤) (A : Atoms 𝓤) (W : Given
   walk : (𝓣 : Tables 𝓤 H) → Triple 𝓤 (𝓣 .C #job·is-run) (IsRun 𝓤 H A mem run) → Triple 𝓤 (𝓣 .C #job·unread) (Unread 𝓤 H A mem run) → Triple 𝓤 (𝓣 .C #job·run-items) (Items 𝓤 H A mem run)
       → ent 𝓤 (onEntry 𝓤 H A f.signature (κ₁, (κ₂, (κ₃, (κ₄, tt)))) (s₁, (s₂, (s₃, (s₄, tt)))) args vals) (WpFn 𝓤 H (𝓣 .C) (𝓣 .Λ) code.function (x ∷ v₁ ∷ v₂ ∷ v₃ ∷ v₄ ∷ []) Post)
   walk 𝓣 known-is-run known-unread known-items =
-      enters W (𝓣 .C) (𝓣 .Λ) P′.mir passed-in (tyBool ∷ P′.mir ∷ ref ∷ slice ∷ ref ∷ slice ∷ refR ∷ sliceR ∷ refR ∷ sliceR ∷ []) pieces.t-1 (tokens ∷ ‵ Owns ∷ []) Post 4 [] 5 passed-typed
+      enters W (𝓣 .C) (𝓣 .Λ) P′.mir passed-in (tyBool ∷ P′.mir ∷ ref ∷ slice ∷ ref ∷ slice ∷ refR ∷ sliceR ∷ ref ∷ slice ∷ []) pieces.t-1 (tokens ∷ ‵ Owns ∷ []) Post 4 [] 5 passed-typed
       (λ b bs. asks 𝓣 b (bs .0) (bs .1 .0) (bs .1 .1 .0) (bs .1 .1 .1 .0) (bs .1 .1 .1 .1 .0) (bs .1 .1 .1 .1 .1 .0) (bs .1 .1 .1 .1 .1 .1 .0) (bs .1 .1 .1 .1 .1 .1 .1 .0) (bs .1 .1 .1 .1 .1 .1 .1 .1 .0) (bs .1 .1 .1 .1 .1 .1 .1 .1 .1 .0) (bs .1 .1 .1 .1 .1 .1 .1 .1 .1 .1 .0) (bs .1 .1 .1 .1 .1 .1 .1 .1 .1 .1 .1 .0) (bs .1 .1 .1 .1 .1 .1 .1 .1 .1 .1 .1 .1 .0) (bs .1 .1 .1 .1 .1 .1 .1 .1 .1 .1 .1 .1 .1 .0) (bs .1 .1 .1 .1 .1 .1 .1 .1 .1 .1 .1 .1 .1 .1 .0) known-unread known-items known-is-run)
 
 module _ {M : Type 1} (𝓤 : URA M) (H : Heap 𝓤) (A : Atoms 𝓤) (W : Given 𝓤 H A) (mem : Memory → SProp 𝓤) (run : Routine → Fun 𝓤) where
@@ -341,7 +341,7 @@ module _ {M : Type 1} (𝓤 : URA M) (H : Heap 𝓤) (A : Atoms 𝓤) (W : Given
       → Walks 𝓤 H A f.ended stayed (WpFn 𝓤 H (𝓣 .C) (𝓣 .Λ) code.function) (f.clauses 𝓤 H A mem run)
   run-if-walks 𝓣 known-is-run known-unread known-items = walked 𝓤 H A f.ended stayed (f.clauses 𝓤 H A mem run) (WpFn 𝓤 H (𝓣 .C) (𝓣 .Λ) code.function)
       (λ κs. (LL.vals R.the-type R′.the-laws, (slice-vals, (slice-vals, (slice-vals, (slice-vals, tt))))))
-      (λ κs. (LL.tells R.the-type R′.the-laws, (mut-slice-tells (named 0) (κs .0) u64, (mut-slice-tells (named 1) (κs .1 .0) u64, (mut-slice-tells (named 2) (κs .1 .1 .0) T.the-row, (mut-slice-tells (named 3) (κs .1 .1 .1 .0) T.the-row, tt))))))
+      (λ κs. (LL.tells R.the-type R′.the-laws, (mut-slice-tells (named 0) (κs .0) u64, (mut-slice-tells (named 1) (κs .1 .0) u64, (mut-slice-tells (named 2) (κs .1 .1 .0) T.the-row, (mut-slice-tells (named 3) (κs .1 .1 .1 .0) u64, tt))))))
       (λ κs qs bounds a g are. via 𝓤 _ (fst∗ 𝓤 _ (emp 𝓤))
       (walk 𝓤 H A W mem run (κs .0) (κs .1 .0) (κs .1 .1 .0) (κs .1 .1 .1 .0) (qs .0) (qs .1 .0) (qs .1 .1 .0) (qs .1 .1 .1 .0) (a .0) (a .1 .0) (a .1 .1 .0) (a .1 .1 .1 .0) (a .1 .1 .1 .1 .0)
       (LL.val R.the-type R′.the-laws (a .0))
@@ -349,7 +349,7 @@ module _ {M : Type 1} (𝓤 : URA M) (H : Heap 𝓤) (A : Atoms 𝓤) (W : Given
 
   goes : AllGo 𝓤 H A W 4 (f.signature .params) (f.ended .kept) stayed
   goes =
-      (goes-dropped 𝓤 H A W 4 (plain (λ _. R.the-row)) yes (λ κs x f. refl), (goes-gave-slice 𝓤 H A W 4 0 tt (plain (λ _. u64)), (goes-gave-slice 𝓤 H A W 4 1 tt (plain (λ _. u64)), (goes-gave-slice 𝓤 H A W 4 2 tt (plain (λ _. T.the-row)), (goes-gave-slice 𝓤 H A W 4 3 tt (plain (λ _. T.the-row)), tt)))))
+      (goes-dropped 𝓤 H A W 4 (plain (λ _. R.the-row)) yes (λ κs x f. refl), (goes-gave-slice 𝓤 H A W 4 0 tt (plain (λ _. u64)), (goes-gave-slice 𝓤 H A W 4 1 tt (plain (λ _. u64)), (goes-gave-slice 𝓤 H A W 4 2 tt (plain (λ _. T.the-row)), (goes-gave-slice 𝓤 H A W 4 3 tt (plain (λ _. u64)), tt)))))
 
 run-if-meets : {M : Type 1} (𝓤 : URA M) (H : Heap 𝓤) (A : Atoms 𝓤) (W : Given 𝓤 H A) (mem : Memory → SProp 𝓤) (run : Routine → Fun 𝓤) (𝓣 : Tables 𝓤 H)
     → Triple 𝓤 (𝓣 .C #job·is-run) (IsRun 𝓤 H A mem run) → Triple 𝓤 (𝓣 .C #job·unread) (Unread 𝓤 H A mem run) → Triple 𝓤 (𝓣 .C #job·run-items) (Items 𝓤 H A mem run)

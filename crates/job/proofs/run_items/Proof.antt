@@ -66,14 +66,14 @@ module _ {M : Type 1} (𝓤 : URA M) (H : Heap 𝓤) (A : Atoms 𝓤) (W : Given
     (known-run : Triple 𝓤 (𝓣 .C #job-run·run) (RunC 𝓤 H A mem run)) where
   walk : (p : Passed) → ent 𝓤 (onEntry 𝓤 H A f.signature (lfts p) (shares p) (args p) (vals p)) (WpFn 𝓤 H (𝓣 .C) (𝓣 .Λ) code.function (p .read-val ∷ nodes-val p ∷ edges-val p ∷ list-val p ∷ scratch-val p ∷ []) (Post 𝓤 H A W mem run p))
   walk p =
-      qed W (tokens 𝓤 p ∷ ‵ (owns (R.the-row ∷ MutSlice (named 0) (p .κ₁) u64 ∷ MutSlice (named 1) (p .κ₂) u64 ∷ MutSlice (named 2) (p .κ₃) T.the-row ∷ MutSlice (named 3) (p .κ₄) T.the-row ∷ []) (args p) (vals p)) ∷ []) ∵
+      qed W (tokens 𝓤 p ∷ ‵ (owns (R.the-row ∷ MutSlice (named 0) (p .κ₁) u64 ∷ MutSlice (named 1) (p .κ₂) u64 ∷ MutSlice (named 2) (p .κ₃) T.the-row ∷ MutSlice (named 3) (p .κ₄) u64 ∷ []) (args p) (vals p)) ∷ []) ∵
       move ! (1 ∷ []) $ fsplit ! $ drop ! $ move ! (1 ∷ []) $
       enter ! (𝓣 .C) (𝓣 .Λ) code.function (p .read-val ∷ nodes-val p ∷ edges-val p ∷ list-val p ∷ scratch-val p ∷ []) (Post 𝓤 H A W mem run p) $
       subst (λ (ls : List Local). Sq W (Taken 𝓤 H A W mem run p 𝓣 known-weights known-profits known-count known-ask known-run) (allocs ls (Runs 𝓤 H A W mem run p 𝓣 known-weights known-profits known-count known-ask known-run))) same-locals (entered 𝓤 H A W mem run p 𝓣 known-weights known-profits known-count known-ask known-run)
 
   -- the same at values that are variables: the prover looks at each of them many times
-  walk-at : (κ₁ κ₂ κ₃ κ₄ : Lft) (s₁ s₂ s₃ s₄ : Share) (r : ReadJob) (ns es : RefT (List ℕ)) (rs xs : RefT (List Record)) (x : Val)
-      → Is R.the-row r (x ∷ []) → Room u64 (length (ns .now)) → Room u64 (length (es .now)) → Room T.the-row (length (rs .now)) → Room T.the-row (length (xs .now)) → r .count ≤ 64
+  walk-at : (κ₁ κ₂ κ₃ κ₄ : Lft) (s₁ s₂ s₃ s₄ : Share) (r : ReadJob) (ns es : RefT (List ℕ)) (rs : RefT (List Record)) (xs : RefT (List ℕ)) (x : Val)
+      → Is R.the-row r (x ∷ []) → Room u64 (length (ns .now)) → Room u64 (length (es .now)) → Room T.the-row (length (rs .now)) → Room u64 (length (xs .now)) → r .count ≤ 64
       → ent 𝓤 (onEntry 𝓤 H A f.signature (κ₁, (κ₂, (κ₃, (κ₄, tt)))) (s₁, (s₂, (s₃, (s₄, tt)))) (r, (ns, (es, (rs, (xs, tt))))) (x ∷ [], (sliceVal (ns .ptr) (length (ns .now)) ∷ [], (sliceVal (es .ptr) (length (es .now)) ∷ [], (sliceVal (rs .ptr) (length (rs .now)) ∷ [], (sliceVal (xs .ptr) (length (xs .now)) ∷ [], tt))))))
       (WpFn 𝓤 H (𝓣 .C) (𝓣 .Λ) code.function (x ∷ sliceVal (ns .ptr) (length (ns .now)) ∷ sliceVal (es .ptr) (length (es .now)) ∷ sliceVal (rs .ptr) (length (rs .now)) ∷ sliceVal (xs .ptr) (length (xs .now)) ∷ [])
       (walkOf 𝓤 H A f.ended stayed (f.clauses 𝓤 H A mem run) .post (((κ₁, (κ₂, (κ₃, (κ₄, tt)))), (s₁, (s₂, (s₃, (s₄, tt)))), tt, (r, (ns, (es, (rs, (xs, tt))))), (x ∷ [], (sliceVal (ns .ptr) (length (ns .now)) ∷ [], (sliceVal (es .ptr) (length (es .now)) ∷ [], (sliceVal (rs .ptr) (length (rs .now)) ∷ [], (sliceVal (xs .ptr) (length (xs .now)) ∷ [], tt)))))), tt)))
@@ -104,14 +104,14 @@ module _ {M : Type 1} (𝓤 : URA M) (H : Heap 𝓤) (A : Atoms 𝓤) (W : Given
   run-items-walks =
       walked 𝓤 H A f.ended stayed (f.clauses 𝓤 H A mem run) (WpFn 𝓤 H (𝓣 .C) (𝓣 .Λ) code.function)
       (λ κs. ((λ x. read-value x ∷ []), (slice-vals, (slice-vals, (slice-vals, (slice-vals, tt))))))
-      (λ κs. (read-tells, (mut-slice-tells (named 0) (κs .0) u64, (mut-slice-tells (named 1) (κs .1 .0) u64, (mut-slice-tells (named 2) (κs .1 .1 .0) T.the-row, (mut-slice-tells (named 3) (κs .1 .1 .1 .0) T.the-row, tt))))))
+      (λ κs. (read-tells, (mut-slice-tells (named 0) (κs .0) u64, (mut-slice-tells (named 1) (κs .1 .0) u64, (mut-slice-tells (named 2) (κs .1 .1 .0) T.the-row, (mut-slice-tells (named 3) (κs .1 .1 .1 .0) u64, tt))))))
       (λ κs qs bounds a g are. needs 𝓤 (a .0 .count ≤ 64) _
       (walk-at (κs .0) (κs .1 .0) (κs .1 .1 .0) (κs .1 .1 .1 .0) (qs .0) (qs .1 .0) (qs .1 .1 .0) (qs .1 .1 .1 .0) (a .0) (a .1 .0) (a .1 .1 .0) (a .1 .1 .1 .0) (a .1 .1 .1 .1 .0) (read-value (a .0))
       (are .0) (are .1 .0 .0 .1) (are .1 .1 .0 .0 .1) (are .1 .1 .1 .0 .0 .1) (are .1 .1 .1 .1 .0 .0 .1)))
 
   goes : AllGo 𝓤 H A W 4 (f.signature .params) (f.ended .kept) stayed
   goes =
-      (goes-dropped 𝓤 H A W 4 (plain (λ _. R.the-row)) yes (λ κs x f. refl), (goes-gave-slice 𝓤 H A W 4 0 tt (plain (λ _. u64)), (goes-gave-slice 𝓤 H A W 4 1 tt (plain (λ _. u64)), (goes-gave-slice 𝓤 H A W 4 2 tt (plain (λ _. T.the-row)), (goes-gave-slice 𝓤 H A W 4 3 tt (plain (λ _. T.the-row)), tt)))))
+      (goes-dropped 𝓤 H A W 4 (plain (λ _. R.the-row)) yes (λ κs x f. refl), (goes-gave-slice 𝓤 H A W 4 0 tt (plain (λ _. u64)), (goes-gave-slice 𝓤 H A W 4 1 tt (plain (λ _. u64)), (goes-gave-slice 𝓤 H A W 4 2 tt (plain (λ _. T.the-row)), (goes-gave-slice 𝓤 H A W 4 3 tt (plain (λ _. u64)), tt)))))
 
   run-items-meets : Meets 𝓤 H A f.signature (WpFn 𝓤 H (𝓣 .C) (𝓣 .Λ) code.function) (f.spec 𝓤 H A mem run)
   run-items-meets = walk-meets 𝓤 H A f.ended stayed W goes (f.clauses 𝓤 H A mem run) (WpFn 𝓤 H (𝓣 .C) (𝓣 .Λ) code.function) (WpFn-mono 𝓤 H (W .laws) 𝓣 code.function) run-items-walks

@@ -43,7 +43,7 @@ use Rattle.searches.specs.Pick.{Held}
 use Rattle.search.specs.declared.Picked.{Picked}
 use Rattle.search.proofs.Picked as P
 use Rattle.search.proofs.Picked.Laws as P′
-use Rattle.pick.specs.Picks.{heldIn}
+use Rattle.pick_steps.specs.Tried.{heldIn}
 use Rattle.pick.proofs.Rows.{picked-makes, picked-typed}
 use Rattle.jobs.specs.Page.{answerOf}
 use Rattle.page_text.specs.declared.Output.{Output}
@@ -81,7 +81,7 @@ use Rattle.job.proofs.run_job.Code.Mir as pieces
 -- of the text nothing is kept to the end; a mutable slice is given up, with its last list told
 abbrev stayed : Stays (f.ended .signature .params) (f.ended .kept)
 stayed =
-    (stay-dropped (shrSliceOf (0 ∷ []) tt (plain (λ _. u8))) yes, (gave-slice (1 ∷ []) tt (plain (λ _. u64)), (gave-slice (2 ∷ []) tt (plain (λ _. u64)), (gave-slice (3 ∷ []) tt (plain (λ _. T.the-row)), (gave-slice (4 ∷ []) tt (plain (λ _. T.the-row)), tt)))))
+    (stay-dropped (shrSliceOf (0 ∷ []) tt (plain (λ _. u8))) yes, (gave-slice (1 ∷ []) tt (plain (λ _. u64)), (gave-slice (2 ∷ []) tt (plain (λ _. u64)), (gave-slice (3 ∷ []) tt (plain (λ _. T.the-row)), (gave-slice (4 ∷ []) tt (plain (λ _. u64)), tt)))))
 
 abbrev slice₀ : Ty
 slice₀ = sliceTy (tyRef (named 0) imm (pointee (u8 .written)))
@@ -96,7 +96,7 @@ abbrev slice₃ : Ty
 slice₃ = sliceTy (tyRef (named 3) mut (pointee (T.the-row .written)))
 
 abbrev slice₄ : Ty
-slice₄ = sliceTy (tyRef (named 4) mut (pointee (T.the-row .written)))
+slice₄ = sliceTy (tyRef (named 4) mut (pointee (u64 .written)))
 
 -- what is lent again to the call
 abbrev ref : Ty
@@ -121,10 +121,10 @@ module _ {M : Type 1} (𝓤 : URA M) (H : Heap 𝓤) (A : Atoms 𝓤) (mem : Mem
   abbrev AnswerC : Contract 𝓤
   AnswerC = tripleOf 𝓤 H A h.signature (h.spec 𝓤 H A mem run)
 
-module _ {M : Type 1} (𝓤 : URA M) (H : Heap 𝓤) (A : Atoms 𝓤) (W : Given 𝓤 H A) (mem : Memory → SProp 𝓤) (run : Routine → Fun 𝓤) (κ₀ κ₁ κ₂ κ₃ κ₄ : Lft) (s₀ s₁ s₂ s₃ s₄ : Share) (text ns es : RefT (List ℕ)) (rs xs : RefT (List Record))
-    (room₀ : Room u8 (length (text .now))) (room₁ : Room u64 (length (ns .now))) (room₂ : Room u64 (length (es .now))) (room₃ : Room T.the-row (length (rs .now))) (room₄ : Room T.the-row (length (xs .now))) where
+module _ {M : Type 1} (𝓤 : URA M) (H : Heap 𝓤) (A : Atoms 𝓤) (W : Given 𝓤 H A) (mem : Memory → SProp 𝓤) (run : Routine → Fun 𝓤) (κ₀ κ₁ κ₂ κ₃ κ₄ : Lft) (s₀ s₁ s₂ s₃ s₄ : Share) (text ns es : RefT (List ℕ)) (rs : RefT (List Record)) (xs : RefT (List ℕ))
+    (room₀ : Room u8 (length (text .now))) (room₁ : Room u64 (length (ns .now))) (room₂ : Room u64 (length (es .now))) (room₃ : Room T.the-row (length (rs .now))) (room₄ : Room u64 (length (xs .now))) where
   abbrev held : Held
-  held = heldIn (places (rs .now)) (ns .now) (es .now) (places (xs .now))
+  held = heldIn (places (rs .now)) (ns .now) (es .now) (xs .now)
 
   abbrev v₀ : Val
   v₀ = sliceVal (text .ptr) (length (text .now))
@@ -141,7 +141,7 @@ module _ {M : Type 1} (𝓤 : URA M) (H : Heap 𝓤) (A : Atoms 𝓤) (W : Given
   abbrev v₄ : Val
   v₄ = sliceVal (xs .ptr) (length (xs .now))
 
-  abbrev args : RefT (List ℕ) × (RefT (List ℕ) × (RefT (List ℕ) × (RefT (List Record) × (RefT (List Record) × Unit {0}))))
+  abbrev args : RefT (List ℕ) × (RefT (List ℕ) × (RefT (List ℕ) × (RefT (List Record) × (RefT (List ℕ) × Unit {0}))))
   args = (text, (ns, (es, (rs, (xs, tt)))))
 
   abbrev vals : List Val × (List Val × (List Val × (List Val × (List Val × Unit {0}))))
@@ -152,10 +152,10 @@ module _ {M : Type 1} (𝓤 : URA M) (H : Heap 𝓤) (A : Atoms 𝓤) (W : Given
 
   -- what is lent to be changed
   abbrev Lists : Fml
-  Lists = owns (MutSlice (named 1) κ₁ u64 ∷ MutSlice (named 2) κ₂ u64 ∷ MutSlice (named 3) κ₃ T.the-row ∷ MutSlice (named 4) κ₄ T.the-row ∷ []) (ns, (es, (rs, (xs, tt)))) (v₁ ∷ [], (v₂ ∷ [], (v₃ ∷ [], (v₄ ∷ [], tt))))
+  Lists = owns (MutSlice (named 1) κ₁ u64 ∷ MutSlice (named 2) κ₂ u64 ∷ MutSlice (named 3) κ₃ T.the-row ∷ MutSlice (named 4) κ₄ u64 ∷ []) (ns, (es, (rs, (xs, tt)))) (v₁ ∷ [], (v₂ ∷ [], (v₃ ∷ [], (v₄ ∷ [], tt))))
 
   abbrev Owns : Fml
-  Owns = owns (ShrSlice (named 0) κ₀ u8 ∷ MutSlice (named 1) κ₁ u64 ∷ MutSlice (named 2) κ₂ u64 ∷ MutSlice (named 3) κ₃ T.the-row ∷ MutSlice (named 4) κ₄ T.the-row ∷ []) args vals
+  Owns = owns (ShrSlice (named 0) κ₀ u8 ∷ MutSlice (named 1) κ₁ u64 ∷ MutSlice (named 2) κ₂ u64 ∷ MutSlice (named 3) κ₃ T.the-row ∷ MutSlice (named 4) κ₄ u64 ∷ []) args vals
 
   abbrev tokens : Item 𝓤
   tokens = ‵ (flft κ₁ s₁) ⊛ (‵ (flft κ₂ s₂) ⊛ (‵ (flft κ₃ s₃) ⊛ (‵ (flft κ₄ s₄) ⊛ ‵ ftrue)))
@@ -180,7 +180,7 @@ module _ {M : Type 1} (𝓤 : URA M) (H : Heap 𝓤) (A : Atoms 𝓤) (W : Given
 
   -- the machine value x of what was read is a variable, so that no step computes with its fields
   module _ (r : ReadJob) (x : Val) (r-is : Is R.the-row r (x ∷ [])) where
-    abbrev run-args : ReadJob × (RefT (List ℕ) × (RefT (List ℕ) × (RefT (List Record) × (RefT (List Record) × Unit {0}))))
+    abbrev run-args : ReadJob × (RefT (List ℕ) × (RefT (List ℕ) × (RefT (List Record) × (RefT (List ℕ) × Unit {0}))))
     run-args = (r, (ns, (es, (rs, (xs, tt)))))
 
     abbrev to-run : RunC 𝓤 H A mem run .Ghost
@@ -223,7 +223,7 @@ module _ {M : Type 1} (𝓤 : URA M) (H : Heap 𝓤) (A : Atoms 𝓤) (W : Given
   module _ (𝓣 : Tables 𝓤 H) (l₀ l₁ l₂ l₃ l₄ l₅ l₆ l₇ l₈ l₉ l₁₀ l₁₁ l₁₂ l₁₃ l₁₄ l₁₅ : ℕ) where
     abbrev E : Env 𝓤 H
     E =
-        (O′.mir, l₀) ∷ (slice₀, l₁) ∷ (slice₁, l₂) ∷ (slice₂, l₃) ∷ (slice₃, l₄) ∷ (slice₄, l₅) ∷ (R′.mir, l₆) ∷ (P′.mir, l₇) ∷ (ref, l₈) ∷ (slice, l₉) ∷ (ref, l₁₀) ∷ (slice, l₁₁) ∷ (refR, l₁₂) ∷ (sliceR, l₁₃) ∷ (refR, l₁₄) ∷ (sliceR, l₁₅) ∷ []
+        (O′.mir, l₀) ∷ (slice₀, l₁) ∷ (slice₁, l₂) ∷ (slice₂, l₃) ∷ (slice₃, l₄) ∷ (slice₄, l₅) ∷ (R′.mir, l₆) ∷ (P′.mir, l₇) ∷ (ref, l₈) ∷ (slice, l₉) ∷ (ref, l₁₀) ∷ (slice, l₁₁) ∷ (refR, l₁₂) ∷ (sliceR, l₁₃) ∷ (ref, l₁₄) ∷ (slice, l₁₅) ∷ []
 
     -- the parameters in their locals, and room for the answer
     abbrev Passed : List (Item 𝓤) → List (Item 𝓤)
@@ -245,10 +245,10 @@ module _ {M : Type 1} (𝓤 : URA M) (H : Heap 𝓤) (A : Atoms 𝓤) (W : Given
     -- the locals that hold what is lent again, with nothing in them
     abbrev Lending : List (Item 𝓤) → List (Item 𝓤)
     Lending Γ =
-        ‵ (froom sliceR l₁₅ 0)
-        ∷ ‵ (fdies sliceR l₁₅)
-        ∷ ‵ (froom refR l₁₄ 0)
-        ∷ ‵ (fdies refR l₁₄)
+        ‵ (froom slice l₁₅ 0)
+        ∷ ‵ (fdies slice l₁₅)
+        ∷ ‵ (froom ref l₁₄ 0)
+        ∷ ‵ (fdies ref l₁₄)
         ∷ ‵ (froom sliceR l₁₃ 0)
         ∷ ‵ (fdies sliceR l₁₃)
         ∷ ‵ (froom refR l₁₂ 0)
@@ -266,10 +266,10 @@ module _ {M : Type 1} (𝓤 : URA M) (H : Heap 𝓤) (A : Atoms 𝓤) (W : Given
     -- the same, with what `run_if` is passed in them
     abbrev Lent-again : List (Item 𝓤) → List (Item 𝓤)
     Lent-again Γ =
-        ‵ (fat fullShare sliceR l₁₅ 0 v₄)
-        ∷ ‵ (fdies sliceR l₁₅)
-        ∷ ‵ (fat fullShare refR l₁₄ 0 (vptr (xs .ptr .0) (xs .ptr .1)))
-        ∷ ‵ (fdies refR l₁₄)
+        ‵ (fat fullShare slice l₁₅ 0 v₄)
+        ∷ ‵ (fdies slice l₁₅)
+        ∷ ‵ (fat fullShare ref l₁₄ 0 (vptr (xs .ptr .0) (xs .ptr .1)))
+        ∷ ‵ (fdies ref l₁₄)
         ∷ ‵ (fat fullShare sliceR l₁₃ 0 v₃)
         ∷ ‵ (fdies sliceR l₁₃)
         ∷ ‵ (fat fullShare refR l₁₂ 0 (vptr (rs .ptr .0) (rs .ptr .1)))
@@ -371,7 +371,7 @@ module _ {M : Type 1} (𝓤 : URA M) (H : Heap 𝓤) (A : Atoms 𝓤) (W : Given
   walk : (𝓣 : Tables 𝓤 H) → Triple 𝓤 (𝓣 .C #job-text·read) (ReadC 𝓤 H A mem run) → Triple 𝓤 (𝓣 .C #job·run-if) (RunC 𝓤 H A mem run) → Triple 𝓤 (𝓣 .C #job·answer-of) (AnswerC 𝓤 H A mem run)
       → ent 𝓤 (onEntry 𝓤 H A f.signature (κ₀, (κ₁, (κ₂, (κ₃, (κ₄, tt))))) (s₀, (s₁, (s₂, (s₃, (s₄, tt))))) args vals) (WpFn 𝓤 H (𝓣 .C) (𝓣 .Λ) code.function (v₀ ∷ v₁ ∷ v₂ ∷ v₃ ∷ v₄ ∷ []) Post)
   walk 𝓣 known-read known-run known-answer =
-      enters W (𝓣 .C) (𝓣 .Λ) O′.mir passed-in (R′.mir ∷ P′.mir ∷ ref ∷ slice ∷ ref ∷ slice ∷ refR ∷ sliceR ∷ refR ∷ sliceR ∷ []) pieces.t-1 (all-tokens ∷ ‵ Owns ∷ []) Post 5 [] 5 passed-typed
+      enters W (𝓣 .C) (𝓣 .Λ) O′.mir passed-in (R′.mir ∷ P′.mir ∷ ref ∷ slice ∷ ref ∷ slice ∷ refR ∷ sliceR ∷ ref ∷ slice ∷ []) pieces.t-1 (all-tokens ∷ ‵ Owns ∷ []) Post 5 [] 5 passed-typed
       (λ b bs. reads 𝓣 b (bs .0) (bs .1 .0) (bs .1 .1 .0) (bs .1 .1 .1 .0) (bs .1 .1 .1 .1 .0) (bs .1 .1 .1 .1 .1 .0) (bs .1 .1 .1 .1 .1 .1 .0) (bs .1 .1 .1 .1 .1 .1 .1 .0) (bs .1 .1 .1 .1 .1 .1 .1 .1 .0) (bs .1 .1 .1 .1 .1 .1 .1 .1 .1 .0) (bs .1 .1 .1 .1 .1 .1 .1 .1 .1 .1 .0) (bs .1 .1 .1 .1 .1 .1 .1 .1 .1 .1 .1 .0) (bs .1 .1 .1 .1 .1 .1 .1 .1 .1 .1 .1 .1 .0) (bs .1 .1 .1 .1 .1 .1 .1 .1 .1 .1 .1 .1 .1 .0) (bs .1 .1 .1 .1 .1 .1 .1 .1 .1 .1 .1 .1 .1 .1 .0) known-answer known-read known-run)
 
 module _ {M : Type 1} (𝓤 : URA M) (H : Heap 𝓤) (A : Atoms 𝓤) (W : Given 𝓤 H A) (mem : Memory → SProp 𝓤) (run : Routine → Fun 𝓤) where
@@ -379,14 +379,14 @@ module _ {M : Type 1} (𝓤 : URA M) (H : Heap 𝓤) (A : Atoms 𝓤) (W : Given
       → Walks 𝓤 H A f.ended stayed (WpFn 𝓤 H (𝓣 .C) (𝓣 .Λ) code.function) (f.clauses 𝓤 H A mem run)
   run-job-walks 𝓣 known-read known-run known-answer = walked 𝓤 H A f.ended stayed (f.clauses 𝓤 H A mem run) (WpFn 𝓤 H (𝓣 .C) (𝓣 .Λ) code.function)
       (λ κs. (slice-vals, (slice-vals, (slice-vals, (slice-vals, (slice-vals, tt))))))
-      (λ κs. (shr-slice-tells (named 0) (κs .0) u8, (mut-slice-tells (named 1) (κs .1 .0) u64, (mut-slice-tells (named 2) (κs .1 .1 .0) u64, (mut-slice-tells (named 3) (κs .1 .1 .1 .0) T.the-row, (mut-slice-tells (named 4) (κs .1 .1 .1 .1 .0) T.the-row, tt))))))
+      (λ κs. (shr-slice-tells (named 0) (κs .0) u8, (mut-slice-tells (named 1) (κs .1 .0) u64, (mut-slice-tells (named 2) (κs .1 .1 .0) u64, (mut-slice-tells (named 3) (κs .1 .1 .1 .0) T.the-row, (mut-slice-tells (named 4) (κs .1 .1 .1 .1 .0) u64, tt))))))
       (λ κs qs bounds a g are. via 𝓤 _ (fst∗ 𝓤 _ (emp 𝓤))
       (walk 𝓤 H A W mem run (κs .0) (κs .1 .0) (κs .1 .1 .0) (κs .1 .1 .1 .0) (κs .1 .1 .1 .1 .0) (qs .0) (qs .1 .0) (qs .1 .1 .0) (qs .1 .1 .1 .0) (qs .1 .1 .1 .1 .0) (a .0) (a .1 .0) (a .1 .1 .0) (a .1 .1 .1 .0) (a .1 .1 .1 .1 .0)
       (are .0 .0 .1) (are .1 .0 .0 .1) (are .1 .1 .0 .0 .1) (are .1 .1 .1 .0 .0 .1) (are .1 .1 .1 .1 .0 .0 .1) 𝓣 known-read known-run known-answer))
 
   goes : AllGo 𝓤 H A W 5 (f.signature .params) (f.ended .kept) stayed
   goes =
-      (goes-dropped 𝓤 H A W 5 (shrSliceOf (0 ∷ []) tt (plain (λ _. u8))) yes (λ κs x f. refl), (goes-gave-slice 𝓤 H A W 5 1 tt (plain (λ _. u64)), (goes-gave-slice 𝓤 H A W 5 2 tt (plain (λ _. u64)), (goes-gave-slice 𝓤 H A W 5 3 tt (plain (λ _. T.the-row)), (goes-gave-slice 𝓤 H A W 5 4 tt (plain (λ _. T.the-row)), tt)))))
+      (goes-dropped 𝓤 H A W 5 (shrSliceOf (0 ∷ []) tt (plain (λ _. u8))) yes (λ κs x f. refl), (goes-gave-slice 𝓤 H A W 5 1 tt (plain (λ _. u64)), (goes-gave-slice 𝓤 H A W 5 2 tt (plain (λ _. u64)), (goes-gave-slice 𝓤 H A W 5 3 tt (plain (λ _. T.the-row)), (goes-gave-slice 𝓤 H A W 5 4 tt (plain (λ _. u64)), tt)))))
 
 run-job-meets : {M : Type 1} (𝓤 : URA M) (H : Heap 𝓤) (A : Atoms 𝓤) (W : Given 𝓤 H A) (mem : Memory → SProp 𝓤) (run : Routine → Fun 𝓤) (𝓣 : Tables 𝓤 H)
     → Triple 𝓤 (𝓣 .C #job-text·read) (ReadC 𝓤 H A mem run) → Triple 𝓤 (𝓣 .C #job·run-if) (RunC 𝓤 H A mem run) → Triple 𝓤 (𝓣 .C #job·answer-of) (AnswerC 𝓤 H A mem run)

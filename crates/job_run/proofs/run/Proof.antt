@@ -65,7 +65,7 @@ module _ {M : Type 1} (𝓤 : URA M) (H : Heap 𝓤) (A : Atoms 𝓤) (W : Given
     (known-turn : Triple 𝓤 (𝓣 .C #job-run·turn) (TurnC 𝓤 H A mem run)) where
   walk : (p : Passed) → ent 𝓤 (onEntry 𝓤 H A f.signature (lfts p) (parts p) (args p) (vals p)) (WpFn 𝓤 H (𝓣 .C) (𝓣 .Λ) code.function (weights-val p ∷ profits-val p ∷ nodes-val p ∷ edges-val p ∷ list-val p ∷ scratch-val p ∷ p .ask-val ∷ []) (Post 𝓤 H A mem run p))
   walk p =
-      qed W ((‵ (flft (p .κ₀) (p .q₀)) ⊛ (‵ (flft (p .κ₁) (p .q₁)) ⊛ (‵ (flft (p .κ₂) (p .q₂)) ⊛ (‵ (flft (p .κ₃) (p .q₃)) ⊛ (‵ (flft (p .κ₄) (p .q₄)) ⊛ (‵ (flft (p .κ₅) (p .q₅)) ⊛ ‵ ftrue)))))) ∷ ‵ (owns (ShrSlice (named 0) (p .κ₀) u64 ∷ ShrSlice (named 1) (p .κ₁) u64 ∷ MutSlice (named 2) (p .κ₂) u64 ∷ MutSlice (named 3) (p .κ₃) u64 ∷ MutSlice (named 4) (p .κ₄) T.the-row ∷ MutSlice (named 5) (p .κ₅) T.the-row ∷ K.the-row ∷ []) (args p) (vals p)) ∷ []) ∵
+      qed W ((‵ (flft (p .κ₀) (p .q₀)) ⊛ (‵ (flft (p .κ₁) (p .q₁)) ⊛ (‵ (flft (p .κ₂) (p .q₂)) ⊛ (‵ (flft (p .κ₃) (p .q₃)) ⊛ (‵ (flft (p .κ₄) (p .q₄)) ⊛ (‵ (flft (p .κ₅) (p .q₅)) ⊛ ‵ ftrue)))))) ∷ ‵ (owns (ShrSlice (named 0) (p .κ₀) u64 ∷ ShrSlice (named 1) (p .κ₁) u64 ∷ MutSlice (named 2) (p .κ₂) u64 ∷ MutSlice (named 3) (p .κ₃) u64 ∷ MutSlice (named 4) (p .κ₄) T.the-row ∷ MutSlice (named 5) (p .κ₅) u64 ∷ K.the-row ∷ []) (args p) (vals p)) ∷ []) ∵
       split ! $ move ! (1 ∷ []) $ split ! $ move ! (1 ∷ []) $ split ! $ move ! (1 ∷ []) $ split ! $ move ! (1 ∷ []) $ split ! $ move ! (1 ∷ []) $ split ! $ move ! (7 ∷ []) $
       fsplit ! $ move ! (1 ∷ []) $ fsplit ! $ move ! (1 ∷ []) $ fsplit ! $ move ! (1 ∷ []) $ fsplit ! $ move ! (1 ∷ []) $ fsplit ! $ move ! (1 ∷ []) $ fsplit ! $
       keep ! (13 ∷ 12 ∷ 11 ∷ 10 ∷ 9 ∷ 7 ∷ 6 ∷ 5 ∷ 4 ∷ 3 ∷ 2 ∷ 0 ∷ []) $
@@ -76,7 +76,7 @@ module _ {M : Type 1} (𝓤 : URA M) (H : Heap 𝓤) (A : Atoms 𝓤) (W : Given
   run-walks =
       walked 𝓤 H A f.ended stayed (f.clauses 𝓤 H A mem run) (WpFn 𝓤 H (𝓣 .C) (𝓣 .Λ) code.function)
       (λ κs. (slice-vals, (slice-vals, (slice-vals, (slice-vals, (slice-vals, (slice-vals, (LL.vals K.the-type K′.the-laws, tt))))))))
-      (λ κs. (shr-slice-tells (named 0) (κs .0) u64, (shr-slice-tells (named 1) (κs .1 .0) u64, (mut-slice-tells (named 2) (κs .1 .1 .0) u64, (mut-slice-tells (named 3) (κs .1 .1 .1 .0) u64, (mut-slice-tells (named 4) (κs .1 .1 .1 .1 .0) T.the-row, (mut-slice-tells (named 5) (κs .1 .1 .1 .1 .1 .0) T.the-row, (LL.tells K.the-type K′.the-laws, tt))))))))
+      (λ κs. (shr-slice-tells (named 0) (κs .0) u64, (shr-slice-tells (named 1) (κs .1 .0) u64, (mut-slice-tells (named 2) (κs .1 .1 .0) u64, (mut-slice-tells (named 3) (κs .1 .1 .1 .0) u64, (mut-slice-tells (named 4) (κs .1 .1 .1 .1 .0) T.the-row, (mut-slice-tells (named 5) (κs .1 .1 .1 .1 .1 .0) u64, (LL.tells K.the-type K′.the-laws, tt))))))))
       (λ κs qs bounds a g are. via 𝓤 _ (fst∗ 𝓤 _ (emp 𝓤)) (walk record {
         κ₀ = κs .0;
         κ₁ = κs .1 .0;
@@ -121,7 +121,7 @@ module _ {M : Type 1} (𝓤 : URA M) (H : Heap 𝓤) (A : Atoms 𝓤) (W : Given
 
   goes : AllGo 𝓤 H A W 6 (f.signature .params) (f.ended .kept) stayed
   goes =
-      (goes-none-slice 𝓤 H A W 6 (0 ∷ []) tt (plain (λ _. u64)) yes, (goes-none-slice 𝓤 H A W 6 (1 ∷ []) tt (plain (λ _. u64)) yes, (goes-slice 𝓤 H A W 6 2 tt (plain (λ _. u64)), (goes-slice 𝓤 H A W 6 3 tt (plain (λ _. u64)), (goes-slice 𝓤 H A W 6 4 tt (plain (λ _. T.the-row)), (goes-slice 𝓤 H A W 6 5 tt (plain (λ _. T.the-row)), (goes-none 𝓤 H A W 6 (λ _. K.the-row) yes (λ κs x f. refl), tt)))))))
+      (goes-none-slice 𝓤 H A W 6 (0 ∷ []) tt (plain (λ _. u64)) yes, (goes-none-slice 𝓤 H A W 6 (1 ∷ []) tt (plain (λ _. u64)) yes, (goes-slice 𝓤 H A W 6 2 tt (plain (λ _. u64)), (goes-slice 𝓤 H A W 6 3 tt (plain (λ _. u64)), (goes-slice 𝓤 H A W 6 4 tt (plain (λ _. T.the-row)), (goes-slice 𝓤 H A W 6 5 tt (plain (λ _. u64)), (goes-none 𝓤 H A W 6 (λ _. K.the-row) yes (λ κs x f. refl), tt)))))))
 
   run-meets : Meets 𝓤 H A f.signature (WpFn 𝓤 H (𝓣 .C) (𝓣 .Λ) code.function) (f.spec 𝓤 H A mem run)
   run-meets = walk-meets 𝓤 H A f.ended stayed W goes (f.clauses 𝓤 H A mem run) (WpFn 𝓤 H (𝓣 .C) (𝓣 .Λ) code.function) (WpFn-mono 𝓤 H (W .laws) 𝓣 code.function) run-walks

@@ -66,7 +66,7 @@ module _ {M : Type 1} (𝓤 : URA M) (H : Heap 𝓤) (A : Atoms 𝓤) (W : Given
     (known-pick : Triple 𝓤 (𝓣 .C #pick·pick) (PickC 𝓤 H A mem run)) where
   walk : (p : Passed) (c : Picked) (cv : Val) (ci : Is P.the-row c (cv ∷ [])) → c .search .opened ≤ length (p .list-now) → ent 𝓤 (onEntry 𝓤 H A f.signature (lfts p c cv) (parts p c cv) (args p c cv) (vals p c cv)) (WpFn 𝓤 H (𝓣 .C) (𝓣 .Λ) code.function (weights-val p ∷ profits-val p ∷ nodes-val p ∷ edges-val p ∷ list-val p ∷ scratch-val p ∷ p .ask-val ∷ cv ∷ []) (Post 𝓤 H A mem run p c cv ci))
   walk p c cv ci enough =
-      qed W ((‵ (flft (p .κ₀) (p .q₀)) ⊛ (‵ (flft (p .κ₁) (p .q₁)) ⊛ (‵ (flft (p .κ₂) (p .q₂)) ⊛ (‵ (flft (p .κ₃) (p .q₃)) ⊛ (‵ (flft (p .κ₄) (p .q₄)) ⊛ (‵ (flft (p .κ₅) (p .q₅)) ⊛ ‵ ftrue)))))) ∷ ‵ (owns (ShrSlice (named 0) (p .κ₀) u64 ∷ ShrSlice (named 1) (p .κ₁) u64 ∷ MutSlice (named 2) (p .κ₂) u64 ∷ MutSlice (named 3) (p .κ₃) u64 ∷ MutSlice (named 4) (p .κ₄) T.the-row ∷ MutSlice (named 5) (p .κ₅) T.the-row ∷ K.the-row ∷ P.the-row ∷ []) (args p c cv) (vals p c cv)) ∷ []) ∵
+      qed W ((‵ (flft (p .κ₀) (p .q₀)) ⊛ (‵ (flft (p .κ₁) (p .q₁)) ⊛ (‵ (flft (p .κ₂) (p .q₂)) ⊛ (‵ (flft (p .κ₃) (p .q₃)) ⊛ (‵ (flft (p .κ₄) (p .q₄)) ⊛ (‵ (flft (p .κ₅) (p .q₅)) ⊛ ‵ ftrue)))))) ∷ ‵ (owns (ShrSlice (named 0) (p .κ₀) u64 ∷ ShrSlice (named 1) (p .κ₁) u64 ∷ MutSlice (named 2) (p .κ₂) u64 ∷ MutSlice (named 3) (p .κ₃) u64 ∷ MutSlice (named 4) (p .κ₄) T.the-row ∷ MutSlice (named 5) (p .κ₅) u64 ∷ K.the-row ∷ P.the-row ∷ []) (args p c cv) (vals p c cv)) ∷ []) ∵
       split ! $ move ! (1 ∷ []) $ split ! $ move ! (1 ∷ []) $ split ! $ move ! (1 ∷ []) $ split ! $ move ! (1 ∷ []) $ split ! $ move ! (1 ∷ []) $ split ! $ move ! (7 ∷ []) $
       fsplit ! $ move ! (1 ∷ []) $ fsplit ! $ move ! (1 ∷ []) $ fsplit ! $ move ! (1 ∷ []) $ fsplit ! $ move ! (1 ∷ []) $ fsplit ! $ move ! (1 ∷ []) $ fsplit ! $
       keep ! (13 ∷ 12 ∷ 11 ∷ 10 ∷ 9 ∷ 7 ∷ 6 ∷ 5 ∷ 4 ∷ 3 ∷ 2 ∷ 0 ∷ []) $
@@ -77,7 +77,7 @@ module _ {M : Type 1} (𝓤 : URA M) (H : Heap 𝓤) (A : Atoms 𝓤) (W : Given
   turn-walks =
       walked 𝓤 H A f.ended stayed (f.clauses 𝓤 H A mem run) (WpFn 𝓤 H (𝓣 .C) (𝓣 .Λ) code.function)
       (λ κs. (slice-vals, (slice-vals, (slice-vals, (slice-vals, (slice-vals, (slice-vals, (LL.vals K.the-type K′.the-laws, (LL.vals P.the-type P′.the-laws, tt)))))))))
-      (λ κs. (shr-slice-tells (named 0) (κs .0) u64, (shr-slice-tells (named 1) (κs .1 .0) u64, (mut-slice-tells (named 2) (κs .1 .1 .0) u64, (mut-slice-tells (named 3) (κs .1 .1 .1 .0) u64, (mut-slice-tells (named 4) (κs .1 .1 .1 .1 .0) T.the-row, (mut-slice-tells (named 5) (κs .1 .1 .1 .1 .1 .0) T.the-row, (LL.tells K.the-type K′.the-laws, (LL.tells P.the-type P′.the-laws, tt)))))))))
+      (λ κs. (shr-slice-tells (named 0) (κs .0) u64, (shr-slice-tells (named 1) (κs .1 .0) u64, (mut-slice-tells (named 2) (κs .1 .1 .0) u64, (mut-slice-tells (named 3) (κs .1 .1 .1 .0) u64, (mut-slice-tells (named 4) (κs .1 .1 .1 .1 .0) T.the-row, (mut-slice-tells (named 5) (κs .1 .1 .1 .1 .1 .0) u64, (LL.tells K.the-type K′.the-laws, (LL.tells P.the-type P′.the-laws, tt)))))))))
       (λ κs qs bounds a g are. needs 𝓤 (a .1 .1 .1 .1 .1 .1 .1 .0 .search .opened ≤ length (a .1 .1 .1 .1 .0 .now)) _ (λ pre. walk record {
         κ₀ = κs .0;
         κ₁ = κs .1 .0;
@@ -122,7 +122,7 @@ module _ {M : Type 1} (𝓤 : URA M) (H : Heap 𝓤) (A : Atoms 𝓤) (W : Given
 
   goes : AllGo 𝓤 H A W 6 (f.signature .params) (f.ended .kept) stayed
   goes =
-      (goes-none-slice 𝓤 H A W 6 (0 ∷ []) tt (plain (λ _. u64)) yes, (goes-none-slice 𝓤 H A W 6 (1 ∷ []) tt (plain (λ _. u64)) yes, (goes-gave-slice 𝓤 H A W 6 2 tt (plain (λ _. u64)), (goes-gave-slice 𝓤 H A W 6 3 tt (plain (λ _. u64)), (goes-gave-slice 𝓤 H A W 6 4 tt (plain (λ _. T.the-row)), (goes-gave-slice 𝓤 H A W 6 5 tt (plain (λ _. T.the-row)), (goes-none 𝓤 H A W 6 (λ _. K.the-row) yes (λ κs x f. refl), (goes-none 𝓤 H A W 6 (λ _. P.the-row) yes (λ κs x f. refl), tt))))))))
+      (goes-none-slice 𝓤 H A W 6 (0 ∷ []) tt (plain (λ _. u64)) yes, (goes-none-slice 𝓤 H A W 6 (1 ∷ []) tt (plain (λ _. u64)) yes, (goes-gave-slice 𝓤 H A W 6 2 tt (plain (λ _. u64)), (goes-gave-slice 𝓤 H A W 6 3 tt (plain (λ _. u64)), (goes-gave-slice 𝓤 H A W 6 4 tt (plain (λ _. T.the-row)), (goes-gave-slice 𝓤 H A W 6 5 tt (plain (λ _. u64)), (goes-none 𝓤 H A W 6 (λ _. K.the-row) yes (λ κs x f. refl), (goes-none 𝓤 H A W 6 (λ _. P.the-row) yes (λ κs x f. refl), tt))))))))
 
   turn-meets : Meets 𝓤 H A f.signature (WpFn 𝓤 H (𝓣 .C) (𝓣 .Λ) code.function) (f.spec 𝓤 H A mem run)
   turn-meets = walk-meets 𝓤 H A f.ended stayed W goes (f.clauses 𝓤 H A mem run) (WpFn 𝓤 H (𝓣 .C) (𝓣 .Λ) code.function) (WpFn-mono 𝓤 H (W .laws) 𝓣 code.function) turn-walks

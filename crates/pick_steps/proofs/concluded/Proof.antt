@@ -14,25 +14,20 @@ refused-pick-requires c κs = search needs
 enum-told : tie.Need-enum-told
 enum-told c = search needs
 
-sub-opened : tie.Need-sub-opened
-sub-opened c =
-    let some = c .before .before .before .pre .some (c .before .enum-told .given .1) in
-    some .0
+sub-others : tie.Need-sub-others
+sub-others c = c .before .before .before .pre (c .before .enum-told .given .1) .0
 
-add-opened : tie.Need-add-opened
-add-opened c =
-    let pre = c .before .before .before .pre in
-    let some = pre .some (c .before .enum-told .given .1) in
-    record { fits = omega (arith, pre .k-small, pre .places-few, some .1 .0) }
+sub-if1 : tie.Need-sub-if1
+sub-if1 c = omega (arith, c .before .before .before .pre (c .before .enum-told .given .1) .1 .0)
 
 refused-pick-requires-2 : tie.Need-refused-pick-requires-2
 refused-pick-requires-2 c κs = search needs
 
+add-accepted-pick : tie.Need-add-accepted-pick
+add-accepted-pick c = search needs
+
 accepted-pick-requires : tie.Need-accepted-pick-requires
-accepted-pick-requires c κs =
-    let e = c .before .before .before in
-    let some = e .before .before .pre .some (e .enum-told .given .1) in
-    some .1 .1
+accepted-pick-requires c κs = let e = c .before .before .before in e .before .before .pre (e .enum-told .given .1) .1 .1
 
 returns : tie.Need-returns
 returns c =
@@ -43,13 +38,14 @@ returns-2 : tie.Need-returns-2
 returns-2 c =
     let e = c .before .before .before in
     let a = e .before .before .args in
-    concluded-full (a .s) (a .t) (a .k) (a .places) _ (e .enum-told .given .1) (c .before .if1 .taken) (c .refused-pick2 .ensures)
+    concluded-full (a .s) (a .t) (a .k) (a .places) _ (e .enum-told .given .1) (omega (arith, c .before .if1 .taken)) (c .refused-pick2 .ensures)
 
 returns-3 : tie.Need-returns-3
 returns-3 c =
     let e = c .before .before .before .before in
     let a = e .before .before .args in
-    concluded-fits (a .s) (a .t) (a .k) (a .places) _ (e .enum-told .given .1) (c .before .before .if1 .left) (c .accepted-pick .ensures)
+    let some = e .before .before .pre (e .enum-told .given .1) in
+    concluded-fits (a .s) (a .t) (a .k) (a .places) _ (e .enum-told .given .1) (omega (arith, c .before .before .if1 .left, some .1 .0)) (c .accepted-pick .ensures)
 
 pub concluded-spec : {M : Type 1} → statement M
 concluded-spec =
@@ -58,9 +54,10 @@ concluded-spec =
     enum-known-verdict
     refused-pick-requires
     enum-told
-    sub-opened
-    add-opened
+    sub-others
+    sub-if1
     refused-pick-requires-2
+    add-accepted-pick
     accepted-pick-requires
     returns
     returns-2

@@ -2,7 +2,6 @@
 use lib.ListN.{length-take}
 use native.Mathlib.Omega.{arith}
 use borrow.Author.Needs.{needs}
-use borrow.Author.Needs.{needs}
 use Rattle.search_replay.proofs.answer.Statement.{statement}
 use Rattle.search_replay.proofs.answer.Tie as tie
 
@@ -20,9 +19,6 @@ at-most-requires-2 c κs = search needs
 
 records-of-requires : tie.Need-records-of-requires
 records-of-requires c κs = search needs
-
-records-of-requires-2 : tie.Need-records-of-requires-2
-records-of-requires-2 c κs = search needs
 
 slice-aggregate-call : tie.Need-slice-aggregate-call
 slice-aggregate-call c = simp length-take (omega arith)
@@ -42,6 +38,9 @@ same-length c = search needs
 same-length-2 : tie.Need-same-length-2
 same-length-2 c = search needs
 
+same-length-3 : tie.Need-same-length-3
+same-length-3 c = search needs
+
 returns : tie.Need-returns
 returns c = search needs
 
@@ -54,11 +53,11 @@ answer-spec =
     array-read-at-most-2
     at-most-requires-2
     records-of-requires
-    records-of-requires-2
     slice-aggregate-call
     slice-aggregate-call-2
     call-requires
     end-line-requires
     same-length
     same-length-2
+    same-length-3
     returns)

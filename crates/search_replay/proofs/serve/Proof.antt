@@ -6,10 +6,10 @@ use Rattle.search_replay.proofs.serve.Statement.{statement}
 use Rattle.search_replay.proofs.serve.Tie as tie
 
 abbrev Inv-loop : tie.InvT-loop
-Inv-loop buf₀ out₀ nodes₀ edges₀ i₀ at₀ turns₀ buf out nodes edges i at turns = (length nodes ≡ length nodes₀) × (length edges ≡ length edges₀)
+Inv-loop buf₀ out₀ nodes₀ edges₀ scratch₀ i₀ at₀ turns₀ buf out nodes edges scratch i at turns = (length nodes ≡ length nodes₀) × (length edges ≡ length edges₀) × (length scratch ≡ length scratch₀)
 
 abbrev μ-loop : tie.MeasureT-loop
-μ-loop buf₀ out₀ nodes₀ edges₀ i₀ at₀ turns₀ buf out nodes edges i at turns = turns
+μ-loop buf₀ out₀ nodes₀ edges₀ scratch₀ i₀ at₀ turns₀ buf out nodes edges scratch i at turns = turns
 
 start-requires : tie.Need-start-requires Inv-loop μ-loop
 start-requires c κs = search needs
@@ -44,6 +44,9 @@ same-length c = search needs
 same-length-2 : tie.Need-same-length-2 Inv-loop μ-loop
 same-length-2 c = search needs
 
+same-length-3 : tie.Need-same-length-3 Inv-loop μ-loop
+same-length-3 c = search needs
+
 returns : tie.Need-returns Inv-loop μ-loop
 returns c = search needs
 
@@ -64,4 +67,5 @@ serve-spec =
     tell-requires
     same-length
     same-length-2
+    same-length-3
     returns)

@@ -27,22 +27,21 @@ use Rattle.border.specs.declared.Question.{Question}
 use Rattle.border.proofs.Question as Qu
 use Rattle.border.specs.declared.Found.{Found}
 use Rattle.border.proofs.Found as Fo
-use Rattle.compile_records.specs.declared.Query.{Query}
-use Rattle.compile_records.proofs.Query as Q
+use Rattle.query.specs.declared.Query.{Query}
+use Rattle.query.proofs.Query as Q
 use Rattle.compile.specs.declared.Answer.{Answer}
 use Rattle.compile.proofs.Answer as An
-use Rattle.records.specs.declared.Record.{Record}
-use Rattle.records.proofs.Record as T
 use Rattle.border.proofs.Rows.{question-makes}
 use Rattle.pick.proofs.Rows.{query-makes, answer-makes}
-use Rattle.records.specs.Structs.{places}
-use Rattle.compile_records.specs.Queried.{askedBy, lentOf, Compiles}
+use Rattle.compile.specs.Asked.{lentOf}
+use Rattle.compile.specs.Answered.{Answers}
+use Rattle.query.specs.Queried.{askedBy}
 use Rattle.border.specs.Border.{numberOf, queryIn, foundOf}
-use Rattle.searches.specs.Compile as Def
+use Rattle.calls.specs.Compile as Def
 use Rattle.border.proofs.query_in as query-in
 use Rattle.border.proofs.query_in.Symbol.{name as #asked}
-use Rattle.compile_records.proofs.compile_into as whole
-use Rattle.compile_records.proofs.compile_into.Symbol.{name as #compiled}
+use Rattle.query.proofs.compile_record as whole
+use Rattle.query.proofs.compile_record.Symbol.{name as #compiled}
 use Rattle.border.proofs.found_of as found-of
 use Rattle.border.proofs.found_of.Symbol.{name as #stored}
 use Rattle.border.proofs.answer_number as answer-number
@@ -66,7 +65,7 @@ pub record Passed : Type 0 where
   pub profits : RefT (List ℕ)
   pub nodes : RefT (List ℕ)
   pub edges : RefT (List ℕ)
-  pub records : RefT (List Record)
+  pub records : RefT (List ℕ)
   pub question : Question
   pub block : ℕ
   pub offset : ℕ
@@ -77,7 +76,7 @@ pub record Passed : Type 0 where
   pub profits-room : Room u64 (length (profits .now))
   pub nodes-room : Room u64 (length (nodes .now))
   pub edges-room : Room u64 (length (edges .now))
-  pub records-room : Room T.the-row (length (records .now))
+  pub records-room : Room u64 (length (records .now))
   pub question-is : Is Qu.the-row question (question-val ∷ [])
 
 -- the contracts of the functions that are called
@@ -130,10 +129,10 @@ module _ (p : Passed) where
   Edges-owned = MutSlice (named 3) (p .κ₃) u64 .own (p .edges) (edges-val ∷ [])
 
   abbrev pub Records-owned : Fml
-  Records-owned = MutSlice (named 4) (p .κ₄) T.the-row .own (p .records) (records-val ∷ [])
+  Records-owned = MutSlice (named 4) (p .κ₄) u64 .own (p .records) (records-val ∷ [])
 
   abbrev pub tables-lent : Def.Lent
-  tables-lent = lentOf (p .nodes .now) (p .edges .now) (places (p .records .now))
+  tables-lent = lentOf (p .nodes .now) (p .edges .now) (p .records .now)
 
 -- the lent struct's machine value when it is opened
 pub record Lent (p : Passed) : Type 0 where
@@ -147,15 +146,15 @@ pub record Asked (p : Passed) : Type 0 where
   pub is : Is Q.the-row value (val ∷ [])
   pub told : value ≡ queryIn (p .question)
 
--- what `compile_into` gives, with its machine value, and the lists and tables after it
+-- what `compile_record` gives, with its machine value, and the lists and tables after it
 pub record Compiled (p : Passed) (asked : Asked p) : Type 0 where
   pub value : Answer
   pub val : Val
   pub is : Is An.the-row value (val ∷ [])
   pub ns : List ℕ
   pub es : List ℕ
-  pub rs : List Record
-  pub told : Compiles (Def.compile (askedBy (p .weights .now) (p .profits .now) (asked .value)) (tables-lent p)) value ns es (places rs)
+  pub rs : List ℕ
+  pub told : Answers (Def.compile (askedBy (p .weights .now) (p .profits .now) (asked .value)) (tables-lent p)) value ns es rs
   pub same-nodes : length ns ≡ length (p .nodes .now)
   pub same-edges : length es ≡ length (p .edges .now)
   pub same-records : length rs ≡ length (p .records .now)
@@ -189,7 +188,7 @@ module _ {M : Type 1} (𝓤 : URA M) (H : Heap 𝓤) (A : Atoms 𝓤) (mem : Mem
       qed W (‵ ftrue ∷ []) ∵ nothing ! $ owned ! Qu.the-row (Is Qu.the-row) (question-makes 𝓤 H A) (p .question) (p .question-val ∷ []) (p .question-is) $ fjoin ! $ move ! (1 ∷ 0 ∷ []) $ join ! $ frame ! $ done !
 
   module _ (asked : Asked p) where
-    abbrev pub compiled-args : RefT (List ℕ) × (RefT (List ℕ) × (RefT (List ℕ) × (RefT (List ℕ) × (RefT (List Record) × (Query × Unit {0})))))
+    abbrev pub compiled-args : RefT (List ℕ) × (RefT (List ℕ) × (RefT (List ℕ) × (RefT (List ℕ) × (RefT (List ℕ) × (Query × Unit {0})))))
     compiled-args = (p .weights, (p .profits, (p .nodes, (p .edges, (p .records, (asked .value, tt))))))
 
     abbrev pub to-compiled : CompileC 𝓤 H A mem run .Ghost

@@ -32,30 +32,28 @@ use denote.Triple.Walked.{says, Stays, stay-dropped, stay-ref, gave-slice, walkO
 use denote.Exit.{yes}
 use denote.Signature.{plain, shrSliceOf}
 use Rattle.records.proofs.Entered.{deaths, allocated, freed}
-use Rattle.host.proofs.Walking.{word, reads, writes, word-ref, word-slice, record-ref, record-slice, room, holds, lent-shut, lent-open, gives}
+use Rattle.host.proofs.Walking.{word, reads, writes, word-ref, word-slice, room, holds, lent-shut, lent-open, gives}
 use Rattle.border.specs.declared.Question.{Question}
 use Rattle.border.proofs.Question as Qu
 use Rattle.border.proofs.Question.Laws as Qu′
 use Rattle.border.specs.declared.Found.{Found}
 use Rattle.border.proofs.Found as Fo
 use Rattle.border.proofs.Found.Laws as Fo′
-use Rattle.compile_records.proofs.Query as Q
-use Rattle.compile_records.proofs.Query.Laws as Q′
+use Rattle.query.proofs.Query as Q
+use Rattle.query.proofs.Query.Laws as Q′
 use Rattle.compile.specs.declared.Answer.{Answer}
 use Rattle.compile.proofs.Answer as An
 use Rattle.compile.proofs.Answer.Laws as An′
-use Rattle.records.specs.declared.Record.{Record}
-use Rattle.records.proofs.Record as T
 use Rattle.border.proofs.Rows.{question-typed, found-value, found-tells, found-makes, found-typed}
 use Rattle.pick.proofs.Rows.{query-typed, answer-typed}
-use Rattle.records.specs.Structs.{places}
-use Rattle.compile_records.specs.Queried.{askedBy, Compiles}
+use Rattle.compile.specs.Answered.{Answers}
+use Rattle.query.specs.Queried.{askedBy}
 use Rattle.border.specs.Border.{numberOf, queryIn, foundOf}
 use Rattle.host.specs.Promises.{CompilesFor}
 use Rattle.host.proofs.Kept.{compiles-for}
-use Rattle.searches.specs.Compile as Def
+use Rattle.calls.specs.Compile as Def
 use Rattle.border.proofs.query_in as query-in
-use Rattle.compile_records.proofs.compile_into as whole
+use Rattle.query.proofs.compile_record as whole
 use Rattle.border.proofs.found_of as found-of
 use Rattle.border.proofs.answer_number as answer-number
 use Rattle.host.proofs.jambtulip_compile as f
@@ -65,14 +63,14 @@ use Rattle.host.proofs.jambtulip_compile.Proof.Calls.{Passed, Known, Le
 
 -- of what is only read nothing is kept to the end; a list or table is given up, with its last content told; the lent struct is still had
 abbrev pub stayed : Stays (f.ended .signature .params) (f.ended .kept)
-stayed = (stay-dropped (shrSliceOf (0 ∷ []) tt (plain (λ _. u64))) yes, (stay-dropped (shrSliceOf (1 ∷ []) tt (plain (λ _. u64))) yes, (gave-slice (2 ∷ []) tt (plain (λ _. u64)), (gave-slice (3 ∷ []) tt (plain (λ _. u64)), (gave-slice (4 ∷ []) tt (plain (λ _. T.the-row)), (stay-dropped (plain (λ _. Qu.the-row)) yes, (stay-ref (5 ∷ []) tt (plain (λ _. Fo.the-row)), tt)))))))
+stayed = (stay-dropped (shrSliceOf (0 ∷ []) tt (plain (λ _. u64))) yes, (stay-dropped (shrSliceOf (1 ∷ []) tt (plain (λ _. u64))) yes, (gave-slice (2 ∷ []) tt (plain (λ _. u64)), (gave-slice (3 ∷ []) tt (plain (λ _. u64)), (gave-slice (4 ∷ []) tt (plain (λ _. u64)), (stay-dropped (plain (λ _. Qu.the-row)) yes, (stay-ref (5 ∷ []) tt (plain (λ _. Fo.the-row)), tt)))))))
 
 abbrev lent-struct : Ty
 lent-struct = tyRef (named 5) mut (pointee (Fo.the-row .written))
 
 -- the locals as they are written here, which are the function's
 abbrev pub locals : List Local
-locals = local word valueLocal ∷ local (reads 0 u64) valueLocal ∷ local (reads 1 u64) valueLocal ∷ local (writes 2 u64) valueLocal ∷ local (writes 3 u64) valueLocal ∷ local (writes 4 T.the-row) valueLocal ∷ local Qu′.mir valueLocal ∷ local lent-struct valueLocal ∷ local Q′.mir valueLocal ∷ local An′.mir valueLocal ∷ local Fo′.mir valueLocal ∷ local word-ref valueLocal ∷ local word-slice valueLocal ∷ local word-ref valueLocal ∷ local word-slice valueLocal ∷ local record-ref valueLocal ∷ local record-slice valueLocal ∷ []
+locals = local word valueLocal ∷ local (reads 0 u64) valueLocal ∷ local (reads 1 u64) valueLocal ∷ local (writes 2 u64) valueLocal ∷ local (writes 3 u64) valueLocal ∷ local (writes 4 u64) valueLocal ∷ local Qu′.mir valueLocal ∷ local lent-struct valueLocal ∷ local Q′.mir valueLocal ∷ local An′.mir valueLocal ∷ local Fo′.mir valueLocal ∷ local word-ref valueLocal ∷ local word-slice valueLocal ∷ local word-ref valueLocal ∷ local word-slice valueLocal ∷ local word-ref valueLocal ∷ local word-slice valueLocal ∷ []
 
 pub same-locals : locals ≡ code.function .locals
 same-locals = refl
@@ -81,7 +79,7 @@ module _ (p : Passed) where
   abbrev pub ref : Found → RefT Found
   ref s = record { ptr = (p .block, p .offset); name = p .name; now = s }
 
-  abbrev pub args : RefT (List ℕ) × (RefT (List ℕ) × (RefT (List ℕ) × (RefT (List ℕ) × (RefT (List Record) × (Question × (RefT Found × Unit {0}))))))
+  abbrev pub args : RefT (List ℕ) × (RefT (List ℕ) × (RefT (List ℕ) × (RefT (List ℕ) × (RefT (List ℕ) × (Question × (RefT Found × Unit {0}))))))
   args = (p .weights, (p .profits, (p .nodes, (p .edges, (p .records, (p .question, (ref (p .old), tt)))))))
 
   abbrev pub passed-vals : List Val
@@ -104,8 +102,8 @@ module _ {M : Type 1} (𝓤 : URA M) (p : Passed) where
   abbrev pub Slices : List (Item 𝓤) → List (Item 𝓤)
   Slices Γ = ‵ (Weights-owned p) ∷ ‵ (Profits-owned p) ∷ ‵ (Nodes-owned p) ∷ ‵ (Edges-owned p) ∷ ‵ (Records-owned p) ∷ Γ
 
-  abbrev pub Finals : List ℕ → List ℕ → List Record → List (Item 𝓤) → List (Item 𝓤)
-  Finals ns es rs Γ = ‵ (finally u64 (p .nodes .name) ns) ∷ ‵ (finally u64 (p .edges .name) es) ∷ ‵ (finally T.the-row (p .records .name) rs) ∷ Γ
+  abbrev pub Finals : List ℕ → List ℕ → List ℕ → List (Item 𝓤) → List (Item 𝓤)
+  Finals ns es rs Γ = ‵ (finally u64 (p .nodes .name) ns) ∷ ‵ (finally u64 (p .edges .name) es) ∷ ‵ (finally u64 (p .records .name) rs) ∷ Γ
 
   abbrev pub Shut : Found → List (Item 𝓤) → List (Item 𝓤)
   Shut s Γ = lent-shut Fo.the-row (p .κ₅) (p .q₅) (p .block) (p .offset) (p .name) s Γ
@@ -118,7 +116,7 @@ module _ {M : Type 1} (𝓤 : URA M) (H : Heap 𝓤) (A : Atoms 𝓤) (mem : Mem
   Post = walkOf 𝓤 H A f.ended stayed (f.clauses 𝓤 H A mem run) .post ((lfts p, parts p, tt, args p, vals p), tt)
 
   -- what it has at its end gives what its contract promises
-  exits : Given 𝓤 H A → (n : ℕ) (w : Val) (s : Found) (ns : List ℕ) (es : List ℕ) (rs : List Record) → Is u64 n (w ∷ []) → CompilesFor (Def.compile (askedBy (p .weights .now) (p .profits .now) (queryIn (p .question))) (tables-lent p)) n s ns es (places rs) → length ns ≡ length (p .nodes .now) → length es ≡ length (p .edges .now) → length rs ≡ length (p .records .now) → ent 𝓤 (⋆ 𝓤 H A (Shut 𝓤 p s (Tokens 𝓤 p (Finals 𝓤 p ns es rs [])))) (Post w)
+  exits : Given 𝓤 H A → (n : ℕ) (w : Val) (s : Found) (ns : List ℕ) (es : List ℕ) (rs : List ℕ) → Is u64 n (w ∷ []) → CompilesFor (Def.compile (askedBy (p .weights .now) (p .profits .now) (queryIn (p .question))) (tables-lent p)) n s ns es rs → length ns ≡ length (p .nodes .now) → length es ≡ length (p .edges .now) → length rs ≡ length (p .records .now) → ent 𝓤 (⋆ 𝓤 H A (Shut 𝓤 p s (Tokens 𝓤 p (Finals 𝓤 p ns es rs [])))) (Post w)
   exits W n w s ns es rs is kept same-nodes same-edges same-records =
       qed W (Shut 𝓤 p s (Tokens 𝓤 p (Finals 𝓤 p ns es rs []))) ∵
       suffices ! _ (ends-at 𝓤 H A f.ended stayed (f.clauses 𝓤 H A mem run) W ((lfts p, parts p, tt, args p, vals p), tt) w n (tt, (tt, (ns, (es, (rs, (tt, (s, tt))))))) (tt, (tt, (same-nodes, (same-edges, (same-records, (tt, (tt, tt)))))))) $ says ! kept $
@@ -128,20 +126,20 @@ module _ {M : Type 1} (𝓤 : URA M) (H : Heap 𝓤) (A : Atoms 𝓤) (W : Given
     (l₀ l₁ l₂ l₃ l₄ l₅ l₆ l₇ l₈ l₉ l₁₀ l₁₁ l₁₂ l₁₃ l₁₄ l₁₅ l₁₆ : ℕ) where
   -- the locals after the result, and all of them
   abbrev pub E₁ : Env 𝓤 H
-  E₁ = ((reads 0 u64), l₁) ∷ ((reads 1 u64), l₂) ∷ ((writes 2 u64), l₃) ∷ ((writes 3 u64), l₄) ∷ ((writes 4 T.the-row), l₅) ∷ (Qu′.mir, l₆) ∷ (lent-struct, l₇) ∷ (Q′.mir, l₈) ∷ (An′.mir, l₉) ∷ (Fo′.mir, l₁₀) ∷ (word-ref, l₁₁) ∷ (word-slice, l₁₂) ∷ (word-ref, l₁₃) ∷ (word-slice, l₁₄) ∷ (record-ref, l₁₅) ∷ (record-slice, l₁₆) ∷ []
+  E₁ = ((reads 0 u64), l₁) ∷ ((reads 1 u64), l₂) ∷ ((writes 2 u64), l₃) ∷ ((writes 3 u64), l₄) ∷ ((writes 4 u64), l₅) ∷ (Qu′.mir, l₆) ∷ (lent-struct, l₇) ∷ (Q′.mir, l₈) ∷ (An′.mir, l₉) ∷ (Fo′.mir, l₁₀) ∷ (word-ref, l₁₁) ∷ (word-slice, l₁₂) ∷ (word-ref, l₁₃) ∷ (word-slice, l₁₄) ∷ (word-ref, l₁₅) ∷ (word-slice, l₁₆) ∷ []
 
   abbrev pub E : Env 𝓤 H
   E = (word, l₀) ∷ E₁
 
   -- the locals: the result, the parameters, what is made on the way, and the temporaries
   abbrev Cells : Item 𝓤 → Item 𝓤 → Item 𝓤 → Item 𝓤 → List (Item 𝓤) → List (Item 𝓤)
-  Cells out query answer shown rest = deaths 𝓤 H E ∷ out ∷ holds (reads 0 u64) l₁ (weights-val p) ∷ holds (reads 1 u64) l₂ (profits-val p) ∷ holds (writes 2 u64) l₃ (nodes-val p) ∷ holds (writes 3 u64) l₄ (edges-val p) ∷ holds (writes 4 T.the-row) l₅ (records-val p) ∷ holds Qu′.mir l₆ (p .question-val) ∷ holds lent-struct l₇ (vptr (p .block) (p .offset)) ∷ query ∷ answer ∷ shown ∷ rest
+  Cells out query answer shown rest = deaths 𝓤 H E ∷ out ∷ holds (reads 0 u64) l₁ (weights-val p) ∷ holds (reads 1 u64) l₂ (profits-val p) ∷ holds (writes 2 u64) l₃ (nodes-val p) ∷ holds (writes 3 u64) l₄ (edges-val p) ∷ holds (writes 4 u64) l₅ (records-val p) ∷ holds Qu′.mir l₆ (p .question-val) ∷ holds lent-struct l₇ (vptr (p .block) (p .offset)) ∷ query ∷ answer ∷ shown ∷ rest
 
   abbrev Empty : List (Item 𝓤)
-  Empty = room word-ref l₁₁ ∷ room word-slice l₁₂ ∷ room word-ref l₁₃ ∷ room word-slice l₁₄ ∷ room record-ref l₁₅ ∷ room record-slice l₁₆ ∷ ‵ ftrue ∷ []
+  Empty = room word-ref l₁₁ ∷ room word-slice l₁₂ ∷ room word-ref l₁₃ ∷ room word-slice l₁₄ ∷ room word-ref l₁₅ ∷ room word-slice l₁₆ ∷ ‵ ftrue ∷ []
 
   abbrev Lent-again : List (Item 𝓤)
-  Lent-again = holds word-ref l₁₁ (vptr (p .nodes .ptr .0) (p .nodes .ptr .1)) ∷ holds word-slice l₁₂ (nodes-val p) ∷ holds word-ref l₁₃ (vptr (p .edges .ptr .0) (p .edges .ptr .1)) ∷ holds word-slice l₁₄ (edges-val p) ∷ holds record-ref l₁₅ (vptr (p .records .ptr .0) (p .records .ptr .1)) ∷ holds record-slice l₁₆ (records-val p) ∷ ‵ ftrue ∷ []
+  Lent-again = holds word-ref l₁₁ (vptr (p .nodes .ptr .0) (p .nodes .ptr .1)) ∷ holds word-slice l₁₂ (nodes-val p) ∷ holds word-ref l₁₃ (vptr (p .edges .ptr .0) (p .edges .ptr .1)) ∷ holds word-slice l₁₄ (edges-val p) ∷ holds word-ref l₁₅ (vptr (p .records .ptr .0) (p .records .ptr .1)) ∷ holds word-slice l₁₆ (records-val p) ∷ ‵ ftrue ∷ []
 
   -- the number is in its local
   module _ (lent : Lent p) (asked : Asked p) (compiled : Compiled p asked) (stored : Stored p asked compiled) (number : Numbered p asked compiled) where
@@ -152,7 +150,7 @@ module _ {M : Type 1} (𝓤 : URA M) (H : Heap 𝓤) (A : Atoms 𝓤) (W : Given
     returned =
         returns ! (look ! 12 refl) $ forget ! 12 refl $ forget ! 13 refl $ forget ! 14 refl $ forget ! 15 refl $ forget ! 16 refl $ forget ! 17 refl $ forget ! 18 refl $ forget ! 19 refl $ forget ! 20 refl $ forget ! 21 refl $ forget ! 22 refl $ forget ! 23 refl $ forget ! 24 refl $ forget ! 25 refl $ forget ! 26 refl $ forget ! 27 refl $ forget ! 28 refl $
         move ! (12 ∷ 13 ∷ 14 ∷ 15 ∷ 16 ∷ 17 ∷ 18 ∷ 19 ∷ 20 ∷ 21 ∷ 22 ∷ 23 ∷ 24 ∷ 25 ∷ 26 ∷ 27 ∷ 28 ∷ 29 ∷ []) $ group ! 18 $ move ! (0 ∷ 12 ∷ []) $
-        freed W (Shut 𝓤 p (stored .value) (Tokens 𝓤 p (Finals 𝓤 p (compiled .ns) (compiled .es) (compiled .rs) []))) E (prop (Post 𝓤 H A mem run p (number .val))) (by ! (exits 𝓤 H A mem run p W (number .value) (number .val) (stored .value) (compiled .ns) (compiled .es) (compiled .rs) (number .is) (compiles-for (p .weights .now) (p .profits .now) (p .question) (tables-lent p) (asked .value) (asked .told) (compiled .value) (compiled .ns) (compiled .es) (places (compiled .rs)) (compiled .told) (stored .value) (stored .told) (number .value) (number .told)) (compiled .same-nodes) (compiled .same-edges) (compiled .same-records)))
+        freed W (Shut 𝓤 p (stored .value) (Tokens 𝓤 p (Finals 𝓤 p (compiled .ns) (compiled .es) (compiled .rs) []))) E (prop (Post 𝓤 H A mem run p (number .val))) (by ! (exits 𝓤 H A mem run p W (number .value) (number .val) (stored .value) (compiled .ns) (compiled .es) (compiled .rs) (number .is) (compiles-for (p .weights .now) (p .profits .now) (p .question) (tables-lent p) (asked .value) (asked .told) (compiled .value) (compiled .ns) (compiled .es) (compiled .rs) (compiled .told) (stored .value) (stored .told) (number .value) (number .told)) (compiled .same-nodes) (compiled .same-edges) (compiled .same-records)))
 
   -- it is stored
   module _ (lent : Lent p) (asked : Asked p) (compiled : Compiled p asked) (stored : Stored p asked compiled) where
@@ -191,7 +189,7 @@ module _ {M : Type 1} (𝓤 : URA M) (H : Heap 𝓤) (A : Atoms 𝓤) (W : Given
         land ! (from ! (stop !)) (init ! 23 refl (found-typed 𝓤 H A W x v is)) $
         stores lent asked compiled record { value = x; val = v; is = is; told = told }))
 
-  -- what `compile_into` changes is lent again
+  -- what `compile_record` changes is lent again
   module _ (lent : Lent p) (asked : Asked p) where
     abbrev Lending : List (Item 𝓤)
     Lending = Open 𝓤 p (lent .val) (Tokens 𝓤 p (Slices 𝓤 p (Cells (room word l₀) (holds Q′.mir l₈ (asked .val)) (room An′.mir l₉) (room Fo′.mir l₁₀) Lent-again)))
@@ -202,8 +200,8 @@ module _ {M : Type 1} (𝓤 : URA M) (H : Heap 𝓤) (A : Atoms 𝓤) (W : Given
         use1 W (raw (CompileC 𝓤 H A mem run .pre (to-compiled 𝓤 H A mem run p asked))) (goes-compiled 𝓤 H A mem run p asked W) $
         calls-at ! (fmOf 𝓤 H (W .laws) 𝓣) (CompileC 𝓤 H A mem run) (known .compiled) (to-compiled 𝓤 H A mem run p asked) (and-then ! (load ! (from ! (stop !)) (look ! 7 refl)) (and-then ! (load ! (from ! (stop !)) (look ! 8 refl)) (and-then ! (load ! (from ! (stop !)) (look ! 18 refl)) (and-then ! (load ! (from ! (stop !)) (look ! 20 refl)) (and-then ! (load ! (from ! (stop !)) (look ! 22 refl)) (and-then ! (load ! (from ! (stop !)) (look ! 14 refl)) (no-more !))))))) (λ v.
         use1 W (later (some (λ (x : Answer). ((‵ (flft (p .κ₀) (p .q₀)) ⊛ (‵ (flft (p .κ₁) (p .q₁)) ⊛ (‵ (flft (p .κ₂) (p .q₂)) ⊛ (‵ (flft (p .κ₃) (p .q₃)) ⊛ (‵ (flft (p .κ₄) (p .q₄)) ⊛ ‵ ftrue))))) ⊛ ‵ (An.the-row .own x (v ∷ []))) ⊛ raw (ensured 𝓤 H A whole.ended (whole.clauses 𝓤 H A mem run) (p .κ₀, (p .κ₁, (p .κ₂, (p .κ₃, (p .κ₄, tt))))) (compiled-args 𝓤 H A mem run p asked) tt x)))) (id⊢ 𝓤 _) $ await ! tt $ pick ! (λ x.
-        split ! $ move ! (1 ∷ []) $ use1 W (some (λ (ls : Unit {0} × (Unit {0} × (List ℕ × (List ℕ × (List Record × (Unit {0} × Unit {0})))))). ‵ (lasts whole.ended (p .κ₀, (p .κ₁, (p .κ₂, (p .κ₃, (p .κ₄, tt))))) (compiled-args 𝓤 H A mem run p asked) ls) ⊛ raw (fact 𝓤 (Compiles (Def.compile (askedBy (p .weights .now) (p .profits .now) (asked .value)) (tables-lent p)) x (ls .1 .1 .0) (ls .1 .1 .1 .0) (places (ls .1 .1 .1 .1 .0)))))) (id⊢ 𝓤 _) $ pick ! (λ ls.
-        split ! $ move ! (1 ∷ []) $ heard ! (Compiles (Def.compile (askedBy (p .weights .now) (p .profits .now) (asked .value)) (tables-lent p)) x (ls .1 .1 .0) (ls .1 .1 .1 .0) (places (ls .1 .1 .1 .1 .0))) (λ told.
+        split ! $ move ! (1 ∷ []) $ use1 W (some (λ (ls : Unit {0} × (Unit {0} × (List ℕ × (List ℕ × (List ℕ × (Unit {0} × Unit {0})))))). ‵ (lasts whole.ended (p .κ₀, (p .κ₁, (p .κ₂, (p .κ₃, (p .κ₄, tt))))) (compiled-args 𝓤 H A mem run p asked) ls) ⊛ raw (fact 𝓤 (Answers (Def.compile (askedBy (p .weights .now) (p .profits .now) (asked .value)) (tables-lent p)) x (ls .1 .1 .0) (ls .1 .1 .1 .0) (ls .1 .1 .1 .1 .0))))) (id⊢ 𝓤 _) $ pick ! (λ ls.
+        split ! $ move ! (1 ∷ []) $ heard ! (Answers (Def.compile (askedBy (p .weights .now) (p .profits .now) (asked .value)) (tables-lent p)) x (ls .1 .1 .0) (ls .1 .1 .1 .0) (ls .1 .1 .1 .1 .0)) (λ told.
         fsplit ! $ drop ! $ fsplit ! $ drop ! $ fsplit ! $ fsplit ! $ move ! (1 ∷ []) $ feqL ! (λ same-nodes. move ! (1 ∷ []) $
         fsplit ! $ fsplit ! $ move ! (1 ∷ []) $ feqL ! (λ same-edges. move ! (1 ∷ []) $
         fsplit ! $ fsplit ! $ move ! (1 ∷ []) $ feqL ! (λ same-records. move ! (1 ∷ []) $
@@ -244,7 +242,7 @@ module _ {M : Type 1} (𝓤 : URA M) (H : Heap 𝓤) (A : Atoms 𝓤) (W : Given
 
   -- the locals are there, the arguments are stored, and the lent struct is opened
   abbrev pub Entered : List (Item 𝓤)
-  Entered = Shut 𝓤 p (p .old) (Tokens 𝓤 p (Slices 𝓤 p (deaths 𝓤 H E ∷ room word l₀ ∷ room (reads 0 u64) l₁ ∷ room (reads 1 u64) l₂ ∷ room (writes 2 u64) l₃ ∷ room (writes 3 u64) l₄ ∷ room (writes 4 T.the-row) l₅ ∷ room Qu′.mir l₆ ∷ room lent-struct l₇ ∷ room Q′.mir l₈ ∷ room An′.mir l₉ ∷ room Fo′.mir l₁₀ ∷ room word-ref l₁₁ ∷ room word-slice l₁₂ ∷ room word-ref l₁₃ ∷ room word-slice l₁₄ ∷ room record-ref l₁₅ ∷ room record-slice l₁₆ ∷ ‵ ftrue ∷ [])))
+  Entered = Shut 𝓤 p (p .old) (Tokens 𝓤 p (Slices 𝓤 p (deaths 𝓤 H E ∷ room word l₀ ∷ room (reads 0 u64) l₁ ∷ room (reads 1 u64) l₂ ∷ room (writes 2 u64) l₃ ∷ room (writes 3 u64) l₄ ∷ room (writes 4 u64) l₅ ∷ room Qu′.mir l₆ ∷ room lent-struct l₇ ∷ room Q′.mir l₈ ∷ room An′.mir l₉ ∷ room Fo′.mir l₁₀ ∷ room word-ref l₁₁ ∷ room word-slice l₁₂ ∷ room word-ref l₁₃ ∷ room word-slice l₁₄ ∷ room word-ref l₁₅ ∷ room word-slice l₁₆ ∷ ‵ ftrue ∷ [])))
 
   pub passed : Sq W Entered (passes E₁ (passed-vals p) (runs (𝓣 .C) (𝓣 .Λ) E pieces.t-1 (atRet E (Post 𝓤 H A mem run p))))
   passed =

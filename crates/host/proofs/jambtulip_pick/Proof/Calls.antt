@@ -40,7 +40,8 @@ use Rattle.border.proofs.Rows.{terms-makes, host-search-makes}
 use Rattle.pick.proofs.Rows.{ask-makes, search-makes, picked-makes}
 use Rattle.records.specs.Structs.{places}
 use Rattle.search.specs.Held.{searchOf}
-use Rattle.pick.specs.Picks.{askedIn, heldIn, Picks}
+use Rattle.pick_steps.specs.Tried.{askedIn, heldIn}
+use Rattle.pick.specs.Picks.{Picks}
 use Rattle.border.specs.Border.{numberOf, askIn, searchIn, hostSearchAfter}
 use Rattle.searches.specs.Pick as Def
 use Rattle.border.proofs.ask_in as ask-in
@@ -75,7 +76,7 @@ pub record Passed : Type 0 where
   pub nodes : RefT (List ℕ)
   pub edges : RefT (List ℕ)
   pub list : RefT (List Record)
-  pub scratch : RefT (List Record)
+  pub scratch : RefT (List ℕ)
   pub terms : Terms
   pub place : ℕ
   pub block : ℕ
@@ -88,7 +89,7 @@ pub record Passed : Type 0 where
   pub nodes-room : Room u64 (length (nodes .now))
   pub edges-room : Room u64 (length (edges .now))
   pub list-room : Room T.the-row (length (list .now))
-  pub scratch-room : Room T.the-row (length (scratch .now))
+  pub scratch-room : Room u64 (length (scratch .now))
   pub terms-is : Is Te.the-row terms (terms-val ∷ [])
   pub place-fits : place < 2 ^ 64
 
@@ -152,10 +153,10 @@ module _ (p : Passed) where
   List-owned = MutSlice (named 4) (p .κ₄) T.the-row .own (p .list) (list-val ∷ [])
 
   abbrev pub Scratch-owned : Fml
-  Scratch-owned = MutSlice (named 5) (p .κ₅) T.the-row .own (p .scratch) (scratch-val ∷ [])
+  Scratch-owned = MutSlice (named 5) (p .κ₅) u64 .own (p .scratch) (scratch-val ∷ [])
 
   abbrev pub held : Def.Held
-  held = heldIn (places (p .list .now)) (p .nodes .now) (p .edges .now) (places (p .scratch .now))
+  held = heldIn (places (p .list .now)) (p .nodes .now) (p .edges .now) (p .scratch .now)
 
 -- the lent struct's machine value when it is opened
 pub record Lent (p : Passed) : Type 0 where
@@ -184,8 +185,8 @@ pub record Answered (p : Passed) (asked : Asked p) (turned : Turned p) : Type 0 
   pub ns : List ℕ
   pub es : List ℕ
   pub rs : List Record
-  pub xs : List Record
-  pub told : Picks (Def.pick (askedIn (p .weights .now) (p .profits .now) (asked .value) (p .place)) (searchOf (turned .value)) (held p)) value ns es (places rs) (places xs)
+  pub xs : List ℕ
+  pub told : Picks (Def.pick (askedIn (p .weights .now) (p .profits .now) (asked .value) (p .place)) (searchOf (turned .value)) (held p)) value ns es (places rs) xs
   pub same-nodes : length ns ≡ length (p .nodes .now)
   pub same-edges : length es ≡ length (p .edges .now)
   pub same-list : length rs ≡ length (p .list .now)
@@ -234,7 +235,7 @@ module _ {M : Type 1} (𝓤 : URA M) (H : Heap 𝓤) (A : Atoms 𝓤) (mem : Mem
         qed W (‵ ftrue ∷ []) ∵ nothing ! $ owned ! Hs.the-row (Is Hs.the-row) (host-search-makes 𝓤 H A) (p .old) (lent .val ∷ []) (lent .is) $ fjoin ! $ move ! (1 ∷ 0 ∷ []) $ join ! $ frame ! $ done !
 
   module _ (asked : Asked p) (turned : Turned p) where
-    abbrev pub picked-args : RefT (List ℕ) × (RefT (List ℕ) × (RefT (List ℕ) × (RefT (List ℕ) × (RefT (List Record) × (RefT (List Record) × (Ask × (ℕ × (Search × Unit {0}))))))))
+    abbrev pub picked-args : RefT (List ℕ) × (RefT (List ℕ) × (RefT (List ℕ) × (RefT (List ℕ) × (RefT (List Record) × (RefT (List ℕ) × (Ask × (ℕ × (Search × Unit {0}))))))))
     picked-args = (p .weights, (p .profits, (p .nodes, (p .edges, (p .list, (p .scratch, (asked .value, (p .place, (turned .value, tt)))))))))
 
     abbrev pub to-picked : PickC 𝓤 H A mem run .Ghost

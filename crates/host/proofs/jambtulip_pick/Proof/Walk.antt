@@ -52,7 +52,8 @@ use Rattle.border.proofs.Rows.{terms-typed, host-search-value, host-search-tell
 use Rattle.pick.proofs.Rows.{ask-typed, search-typed, picked-typed}
 use Rattle.records.specs.Structs.{places}
 use Rattle.search.specs.Held.{searchOf}
-use Rattle.pick.specs.Picks.{askedIn, Picks}
+use Rattle.pick_steps.specs.Tried.{askedIn}
+use Rattle.pick.specs.Picks.{Picks}
 use Rattle.border.specs.Border.{numberOf, askIn, searchIn, hostSearchAfter}
 use Rattle.host.specs.Promises.{PicksFor}
 use Rattle.host.proofs.Kept.{picks-for}
@@ -69,14 +70,14 @@ use Rattle.host.proofs.jambtulip_pick.Proof.Calls.{Passed, Known, Lent,
 
 -- of what is only read nothing is kept to the end; a list or table is given up, with its last content told; the lent struct is still had
 abbrev pub stayed : Stays (f.ended .signature .params) (f.ended .kept)
-stayed = (stay-dropped (shrSliceOf (0 ∷ []) tt (plain (λ _. u64))) yes, (stay-dropped (shrSliceOf (1 ∷ []) tt (plain (λ _. u64))) yes, (gave-slice (2 ∷ []) tt (plain (λ _. u64)), (gave-slice (3 ∷ []) tt (plain (λ _. u64)), (gave-slice (4 ∷ []) tt (plain (λ _. T.the-row)), (gave-slice (5 ∷ []) tt (plain (λ _. T.the-row)), (stay-dropped (plain (λ _. Te.the-row)) yes, (stay-dropped (plain (λ _. usize)) yes, (stay-ref (6 ∷ []) tt (plain (λ _. Hs.the-row)), tt)))))))))
+stayed = (stay-dropped (shrSliceOf (0 ∷ []) tt (plain (λ _. u64))) yes, (stay-dropped (shrSliceOf (1 ∷ []) tt (plain (λ _. u64))) yes, (gave-slice (2 ∷ []) tt (plain (λ _. u64)), (gave-slice (3 ∷ []) tt (plain (λ _. u64)), (gave-slice (4 ∷ []) tt (plain (λ _. T.the-row)), (gave-slice (5 ∷ []) tt (plain (λ _. u64)), (stay-dropped (plain (λ _. Te.the-row)) yes, (stay-dropped (plain (λ _. usize)) yes, (stay-ref (6 ∷ []) tt (plain (λ _. Hs.the-row)), tt)))))))))
 
 abbrev lent-struct : Ty
 lent-struct = tyRef (named 6) mut (pointee (Hs.the-row .written))
 
 -- the locals as they are written here, which are the function's
 abbrev pub locals : List Local
-locals = local word valueLocal ∷ local (reads 0 u64) valueLocal ∷ local (reads 1 u64) valueLocal ∷ local (writes 2 u64) valueLocal ∷ local (writes 3 u64) valueLocal ∷ local (writes 4 T.the-row) valueLocal ∷ local (writes 5 T.the-row) valueLocal ∷ local Te′.mir valueLocal ∷ local word valueLocal ∷ local lent-struct valueLocal ∷ local Hs′.mir valueLocal ∷ local K′.mir valueLocal ∷ local S′.mir valueLocal ∷ local P′.mir valueLocal ∷ local Hs′.mir valueLocal ∷ local word-ref valueLocal ∷ local word-slice valueLocal ∷ local word-ref valueLocal ∷ local word-slice valueLocal ∷ local record-ref valueLocal ∷ local record-slice valueLocal ∷ local record-ref valueLocal ∷ local record-slice valueLocal ∷ []
+locals = local word valueLocal ∷ local (reads 0 u64) valueLocal ∷ local (reads 1 u64) valueLocal ∷ local (writes 2 u64) valueLocal ∷ local (writes 3 u64) valueLocal ∷ local (writes 4 T.the-row) valueLocal ∷ local (writes 5 u64) valueLocal ∷ local Te′.mir valueLocal ∷ local word valueLocal ∷ local lent-struct valueLocal ∷ local Hs′.mir valueLocal ∷ local K′.mir valueLocal ∷ local S′.mir valueLocal ∷ local P′.mir valueLocal ∷ local Hs′.mir valueLocal ∷ local word-ref valueLocal ∷ local word-slice valueLocal ∷ local word-ref valueLocal ∷ local word-slice valueLocal ∷ local record-ref valueLocal ∷ local record-slice valueLocal ∷ local word-ref valueLocal ∷ local word-slice valueLocal ∷ []
 
 pub same-locals : locals ≡ code.function .locals
 same-locals = refl
@@ -85,7 +86,7 @@ module _ (p : Passed) where
   abbrev pub ref : HostSearch → RefT HostSearch
   ref s = record { ptr = (p .block, p .offset); name = p .name; now = s }
 
-  abbrev pub args : RefT (List ℕ) × (RefT (List ℕ) × (RefT (List ℕ) × (RefT (List ℕ) × (RefT (List Record) × (RefT (List Record) × (Terms × (ℕ × (RefT HostSearch × Unit {0}))))))))
+  abbrev pub args : RefT (List ℕ) × (RefT (List ℕ) × (RefT (List ℕ) × (RefT (List ℕ) × (RefT (List Record) × (RefT (List ℕ) × (Terms × (ℕ × (RefT HostSearch × Unit {0}))))))))
   args = (p .weights, (p .profits, (p .nodes, (p .edges, (p .list, (p .scratch, (p .terms, (p .place, (ref (p .old), tt)))))))))
 
   abbrev pub passed-vals : List Val
@@ -108,8 +109,8 @@ module _ {M : Type 1} (𝓤 : URA M) (p : Passed) where
   abbrev pub Slices : List (Item 𝓤) → List (Item 𝓤)
   Slices Γ = ‵ (Weights-owned p) ∷ ‵ (Profits-owned p) ∷ ‵ (Nodes-owned p) ∷ ‵ (Edges-owned p) ∷ ‵ (List-owned p) ∷ ‵ (Scratch-owned p) ∷ Γ
 
-  abbrev pub Finals : List ℕ → List ℕ → List Record → List Record → List (Item 𝓤) → List (Item 𝓤)
-  Finals ns es rs xs Γ = ‵ (finally u64 (p .nodes .name) ns) ∷ ‵ (finally u64 (p .edges .name) es) ∷ ‵ (finally T.the-row (p .list .name) rs) ∷ ‵ (finally T.the-row (p .scratch .name) xs) ∷ Γ
+  abbrev pub Finals : List ℕ → List ℕ → List Record → List ℕ → List (Item 𝓤) → List (Item 𝓤)
+  Finals ns es rs xs Γ = ‵ (finally u64 (p .nodes .name) ns) ∷ ‵ (finally u64 (p .edges .name) es) ∷ ‵ (finally T.the-row (p .list .name) rs) ∷ ‵ (finally u64 (p .scratch .name) xs) ∷ Γ
 
   abbrev pub Shut : HostSearch → List (Item 𝓤) → List (Item 𝓤)
   Shut s Γ = lent-shut Hs.the-row (p .κ₆) (p .q₆) (p .block) (p .offset) (p .name) s Γ
@@ -122,7 +123,7 @@ module _ {M : Type 1} (𝓤 : URA M) (H : Heap 𝓤) (A : Atoms 𝓤) (mem : Mem
   Post = walkOf 𝓤 H A f.ended stayed (f.clauses 𝓤 H A mem run) .post ((lfts p, parts p, tt, args p, vals p), tt)
 
   -- what it has at its end gives what its contract promises
-  exits : Given 𝓤 H A → (n : ℕ) (w : Val) (s : HostSearch) (ns : List ℕ) (es : List ℕ) (rs : List Record) (xs : List Record) → Is u64 n (w ∷ []) → PicksFor (Def.pick (askedIn (p .weights .now) (p .profits .now) (askIn (p .terms)) (p .place)) (searchOf (searchIn (p .old))) (held p)) n (p .old) s ns es (places rs) (places xs) → length ns ≡ length (p .nodes .now) → length es ≡ length (p .edges .now) → length rs ≡ length (p .list .now) → length xs ≡ length (p .scratch .now) → ent 𝓤 (⋆ 𝓤 H A (Shut 𝓤 p s (Tokens 𝓤 p (Finals 𝓤 p ns es rs xs [])))) (Post w)
+  exits : Given 𝓤 H A → (n : ℕ) (w : Val) (s : HostSearch) (ns : List ℕ) (es : List ℕ) (rs : List Record) (xs : List ℕ) → Is u64 n (w ∷ []) → PicksFor (Def.pick (askedIn (p .weights .now) (p .profits .now) (askIn (p .terms)) (p .place)) (searchOf (searchIn (p .old))) (held p)) n (p .old) s ns es (places rs) xs → length ns ≡ length (p .nodes .now) → length es ≡ length (p .edges .now) → length rs ≡ length (p .list .now) → length xs ≡ length (p .scratch .now) → ent 𝓤 (⋆ 𝓤 H A (Shut 𝓤 p s (Tokens 𝓤 p (Finals 𝓤 p ns es rs xs [])))) (Post w)
   exits W n w s ns es rs xs is kept same-nodes same-edges same-list same-scratch =
       qed W (Shut 𝓤 p s (Tokens 𝓤 p (Finals 𝓤 p ns es rs xs []))) ∵
       suffices ! _ (ends-at 𝓤 H A f.ended stayed (f.clauses 𝓤 H A mem run) W ((lfts p, parts p, tt, args p, vals p), tt) w n (tt, (tt, (ns, (es, (rs, (xs, (tt, (tt, (s, tt))))))))) (tt, (tt, (same-nodes, (same-edges, (same-list, (same-scratch, (tt, (tt, (tt, tt)))))))))) $ says ! kept $
@@ -132,20 +133,20 @@ module _ {M : Type 1} (𝓤 : URA M) (H : Heap 𝓤) (A : Atoms 𝓤) (W : Given
     (l₀ l₁ l₂ l₃ l₄ l₅ l₆ l₇ l₈ l₉ l₁₀ l₁₁ l₁₂ l₁₃ l₁₄ l₁₅ l₁₆ l₁₇ l₁₈ l₁₉ l₂₀ l₂₁ l₂₂ : ℕ) where
   -- the locals after the result, and all of them
   abbrev pub E₁ : Env 𝓤 H
-  E₁ = ((reads 0 u64), l₁) ∷ ((reads 1 u64), l₂) ∷ ((writes 2 u64), l₃) ∷ ((writes 3 u64), l₄) ∷ ((writes 4 T.the-row), l₅) ∷ ((writes 5 T.the-row), l₆) ∷ (Te′.mir, l₇) ∷ (word, l₈) ∷ (lent-struct, l₉) ∷ (Hs′.mir, l₁₀) ∷ (K′.mir, l₁₁) ∷ (S′.mir, l₁₂) ∷ (P′.mir, l₁₃) ∷ (Hs′.mir, l₁₄) ∷ (word-ref, l₁₅) ∷ (word-slice, l₁₆) ∷ (word-ref, l₁₇) ∷ (word-slice, l₁₈) ∷ (record-ref, l₁₉) ∷ (record-slice, l₂₀) ∷ (record-ref, l₂₁) ∷ (record-slice, l₂₂) ∷ []
+  E₁ = ((reads 0 u64), l₁) ∷ ((reads 1 u64), l₂) ∷ ((writes 2 u64), l₃) ∷ ((writes 3 u64), l₄) ∷ ((writes 4 T.the-row), l₅) ∷ ((writes 5 u64), l₆) ∷ (Te′.mir, l₇) ∷ (word, l₈) ∷ (lent-struct, l₉) ∷ (Hs′.mir, l₁₀) ∷ (K′.mir, l₁₁) ∷ (S′.mir, l₁₂) ∷ (P′.mir, l₁₃) ∷ (Hs′.mir, l₁₄) ∷ (word-ref, l₁₅) ∷ (word-slice, l₁₆) ∷ (word-ref, l₁₇) ∷ (word-slice, l₁₈) ∷ (record-ref, l₁₉) ∷ (record-slice, l₂₀) ∷ (word-ref, l₂₁) ∷ (word-slice, l₂₂) ∷ []
 
   abbrev pub E : Env 𝓤 H
   E = (word, l₀) ∷ E₁
 
   -- the locals: the result, the parameters, what is made on the way, and the temporaries
   abbrev Cells : Item 𝓤 → Item 𝓤 → Item 𝓤 → Item 𝓤 → Item 𝓤 → Item 𝓤 → List (Item 𝓤) → List (Item 𝓤)
-  Cells out old ask before picked after rest = deaths 𝓤 H E ∷ out ∷ holds (reads 0 u64) l₁ (weights-val p) ∷ holds (reads 1 u64) l₂ (profits-val p) ∷ holds (writes 2 u64) l₃ (nodes-val p) ∷ holds (writes 3 u64) l₄ (edges-val p) ∷ holds (writes 4 T.the-row) l₅ (list-val p) ∷ holds (writes 5 T.the-row) l₆ (scratch-val p) ∷ holds Te′.mir l₇ (p .terms-val) ∷ holds word l₈ (vint w64 (p .place)) ∷ holds lent-struct l₉ (vptr (p .block) (p .offset)) ∷ old ∷ ask ∷ before ∷ picked ∷ after ∷ rest
+  Cells out old ask before picked after rest = deaths 𝓤 H E ∷ out ∷ holds (reads 0 u64) l₁ (weights-val p) ∷ holds (reads 1 u64) l₂ (profits-val p) ∷ holds (writes 2 u64) l₃ (nodes-val p) ∷ holds (writes 3 u64) l₄ (edges-val p) ∷ holds (writes 4 T.the-row) l₅ (list-val p) ∷ holds (writes 5 u64) l₆ (scratch-val p) ∷ holds Te′.mir l₇ (p .terms-val) ∷ holds word l₈ (vint w64 (p .place)) ∷ holds lent-struct l₉ (vptr (p .block) (p .offset)) ∷ old ∷ ask ∷ before ∷ picked ∷ after ∷ rest
 
   abbrev Empty : List (Item 𝓤)
-  Empty = room word-ref l₁₅ ∷ room word-slice l₁₆ ∷ room word-ref l₁₇ ∷ room word-slice l₁₈ ∷ room record-ref l₁₉ ∷ room record-slice l₂₀ ∷ room record-ref l₂₁ ∷ room record-slice l₂₂ ∷ ‵ ftrue ∷ []
+  Empty = room word-ref l₁₅ ∷ room word-slice l₁₆ ∷ room word-ref l₁₇ ∷ room word-slice l₁₈ ∷ room record-ref l₁₉ ∷ room record-slice l₂₀ ∷ room word-ref l₂₁ ∷ room word-slice l₂₂ ∷ ‵ ftrue ∷ []
 
   abbrev Lent-again : List (Item 𝓤)
-  Lent-again = holds word-ref l₁₅ (vptr (p .nodes .ptr .0) (p .nodes .ptr .1)) ∷ holds word-slice l₁₆ (nodes-val p) ∷ holds word-ref l₁₇ (vptr (p .edges .ptr .0) (p .edges .ptr .1)) ∷ holds word-slice l₁₈ (edges-val p) ∷ holds record-ref l₁₉ (vptr (p .list .ptr .0) (p .list .ptr .1)) ∷ holds record-slice l₂₀ (list-val p) ∷ holds record-ref l₂₁ (vptr (p .scratch .ptr .0) (p .scratch .ptr .1)) ∷ holds record-slice l₂₂ (scratch-val p) ∷ ‵ ftrue ∷ []
+  Lent-again = holds word-ref l₁₅ (vptr (p .nodes .ptr .0) (p .nodes .ptr .1)) ∷ holds word-slice l₁₆ (nodes-val p) ∷ holds word-ref l₁₇ (vptr (p .edges .ptr .0) (p .edges .ptr .1)) ∷ holds word-slice l₁₈ (edges-val p) ∷ holds record-ref l₁₉ (vptr (p .list .ptr .0) (p .list .ptr .1)) ∷ holds record-slice l₂₀ (list-val p) ∷ holds word-ref l₂₁ (vptr (p .scratch .ptr .0) (p .scratch .ptr .1)) ∷ holds word-slice l₂₂ (scratch-val p) ∷ ‵ ftrue ∷ []
 
   -- the number is in its local
   module _ (lent : Lent p) (asked : Asked p) (turned : Turned p) (picked : Answered p asked turned) (stored : Stored p asked turned picked) (number : Numbered p asked turned picked) where
@@ -156,7 +157,7 @@ module _ {M : Type 1} (𝓤 : URA M) (H : Heap 𝓤) (A : Atoms 𝓤) (W : Given
     returned =
         returns ! (look ! 14 refl) $ forget ! 14 refl $ forget ! 15 refl $ forget ! 16 refl $ forget ! 17 refl $ forget ! 18 refl $ forget ! 19 refl $ forget ! 20 refl $ forget ! 21 refl $ forget ! 22 refl $ forget ! 23 refl $ forget ! 24 refl $ forget ! 25 refl $ forget ! 26 refl $ forget ! 27 refl $ forget ! 28 refl $ forget ! 29 refl $ forget ! 30 refl $ forget ! 31 refl $ forget ! 32 refl $ forget ! 33 refl $ forget ! 34 refl $ forget ! 35 refl $ forget ! 36 refl $
         move ! (14 ∷ 15 ∷ 16 ∷ 17 ∷ 18 ∷ 19 ∷ 20 ∷ 21 ∷ 22 ∷ 23 ∷ 24 ∷ 25 ∷ 26 ∷ 27 ∷ 28 ∷ 29 ∷ 30 ∷ 31 ∷ 32 ∷ 33 ∷ 34 ∷ 35 ∷ 36 ∷ 37 ∷ []) $ group ! 24 $ move ! (0 ∷ 14 ∷ []) $
-        freed W (Shut 𝓤 p (stored .value) (Tokens 𝓤 p (Finals 𝓤 p (picked .ns) (picked .es) (picked .rs) (picked .xs) []))) E (prop (Post 𝓤 H A mem run p (number .val))) (by ! (exits 𝓤 H A mem run p W (number .value) (number .val) (stored .value) (picked .ns) (picked .es) (picked .rs) (picked .xs) (number .is) (picks-for (p .weights .now) (p .profits .now) (p .terms) (p .place) (p .old) (held p) (asked .value) (turned .value) (asked .told) (turned .told) (picked .value) (picked .ns) (picked .es) (places (picked .rs)) (places (picked .xs)) (picked .told) (stored .value) (stored .told) (number .value) (number .told)) (picked .same-nodes) (picked .same-edges) (picked .same-list) (picked .same-scratch)))
+        freed W (Shut 𝓤 p (stored .value) (Tokens 𝓤 p (Finals 𝓤 p (picked .ns) (picked .es) (picked .rs) (picked .xs) []))) E (prop (Post 𝓤 H A mem run p (number .val))) (by ! (exits 𝓤 H A mem run p W (number .value) (number .val) (stored .value) (picked .ns) (picked .es) (picked .rs) (picked .xs) (number .is) (picks-for (p .weights .now) (p .profits .now) (p .terms) (p .place) (p .old) (held p) (asked .value) (turned .value) (asked .told) (turned .told) (picked .value) (picked .ns) (picked .es) (places (picked .rs)) (picked .xs) (picked .told) (stored .value) (stored .told) (number .value) (number .told)) (picked .same-nodes) (picked .same-edges) (picked .same-list) (picked .same-scratch)))
 
   -- it is stored
   module _ (lent : Lent p) (asked : Asked p) (turned : Turned p) (picked : Answered p asked turned) (stored : Stored p asked turned picked) where
@@ -206,8 +207,8 @@ module _ {M : Type 1} (𝓤 : URA M) (H : Heap 𝓤) (A : Atoms 𝓤) (W : Given
         group ! 12 $ use1 W (raw (PickC 𝓤 H A mem run .pre (to-picked 𝓤 H A mem run p asked turned))) (goes-picked 𝓤 H A mem run p asked turned W) $
         calls-at ! (fmOf 𝓤 H (W .laws) 𝓣) (PickC 𝓤 H A mem run) (known .picked) (to-picked 𝓤 H A mem run p asked turned) (and-then ! (load ! (from ! (stop !)) (look ! 7 refl)) (and-then ! (load ! (from ! (stop !)) (look ! 8 refl)) (and-then ! (load ! (from ! (stop !)) (look ! 22 refl)) (and-then ! (load ! (from ! (stop !)) (look ! 24 refl)) (and-then ! (load ! (from ! (stop !)) (look ! 26 refl)) (and-then ! (load ! (from ! (stop !)) (look ! 28 refl)) (and-then ! (load ! (from ! (stop !)) (look ! 17 refl)) (and-then ! (load ! (from ! (stop !)) (look ! 14 refl)) (and-then ! (load ! (from ! (stop !)) (look ! 18 refl)) (no-more !)))))))))) (λ v.
         use1 W (later (some (λ (x : Picked). ((‵ (flft (p .κ₀) (p .q₀)) ⊛ (‵ (flft (p .κ₁) (p .q₁)) ⊛ (‵ (flft (p .κ₂) (p .q₂)) ⊛ (‵ (flft (p .κ₃) (p .q₃)) ⊛ (‵ (flft (p .κ₄) (p .q₄)) ⊛ (‵ (flft (p .κ₅) (p .q₅)) ⊛ ‵ ftrue)))))) ⊛ ‵ (P.the-row .own x (v ∷ []))) ⊛ raw (ensured 𝓤 H A whole.ended (whole.clauses 𝓤 H A mem run) (p .κ₀, (p .κ₁, (p .κ₂, (p .κ₃, (p .κ₄, (p .κ₅, tt)))))) (picked-args 𝓤 H A mem run p asked turned) tt x)))) (id⊢ 𝓤 _) $ await ! tt $ pick ! (λ x.
-        split ! $ move ! (1 ∷ []) $ use1 W (some (λ (ls : Unit {0} × (Unit {0} × (List ℕ × (List ℕ × (List Record × (List Record × (Unit {0} × (Unit {0} × (Unit {0} × Unit {0}))))))))). ‵ (lasts whole.ended (p .κ₀, (p .κ₁, (p .κ₂, (p .κ₃, (p .κ₄, (p .κ₅, tt)))))) (picked-args 𝓤 H A mem run p asked turned) ls) ⊛ raw (fact 𝓤 (Picks (Def.pick (askedIn (p .weights .now) (p .profits .now) (asked .value) (p .place)) (searchOf (turned .value)) (held p)) x (ls .1 .1 .0) (ls .1 .1 .1 .0) (places (ls .1 .1 .1 .1 .0)) (places (ls .1 .1 .1 .1 .1 .0)))))) (id⊢ 𝓤 _) $ pick ! (λ ls.
-        split ! $ move ! (1 ∷ []) $ heard ! (Picks (Def.pick (askedIn (p .weights .now) (p .profits .now) (asked .value) (p .place)) (searchOf (turned .value)) (held p)) x (ls .1 .1 .0) (ls .1 .1 .1 .0) (places (ls .1 .1 .1 .1 .0)) (places (ls .1 .1 .1 .1 .1 .0))) (λ told.
+        split ! $ move ! (1 ∷ []) $ use1 W (some (λ (ls : Unit {0} × (Unit {0} × (List ℕ × (List ℕ × (List Record × (List ℕ × (Unit {0} × (Unit {0} × (Unit {0} × Unit {0}))))))))). ‵ (lasts whole.ended (p .κ₀, (p .κ₁, (p .κ₂, (p .κ₃, (p .κ₄, (p .κ₅, tt)))))) (picked-args 𝓤 H A mem run p asked turned) ls) ⊛ raw (fact 𝓤 (Picks (Def.pick (askedIn (p .weights .now) (p .profits .now) (asked .value) (p .place)) (searchOf (turned .value)) (held p)) x (ls .1 .1 .0) (ls .1 .1 .1 .0) (places (ls .1 .1 .1 .1 .0)) (ls .1 .1 .1 .1 .1 .0))))) (id⊢ 𝓤 _) $ pick ! (λ ls.
+        split ! $ move ! (1 ∷ []) $ heard ! (Picks (Def.pick (askedIn (p .weights .now) (p .profits .now) (asked .value) (p .place)) (searchOf (turned .value)) (held p)) x (ls .1 .1 .0) (ls .1 .1 .1 .0) (places (ls .1 .1 .1 .1 .0)) (ls .1 .1 .1 .1 .1 .0)) (λ told.
         fsplit ! $ drop ! $ fsplit ! $ drop ! $ fsplit ! $ fsplit ! $ move ! (1 ∷ []) $ feqL ! (λ same-nodes. move ! (1 ∷ []) $
         fsplit ! $ fsplit ! $ move ! (1 ∷ []) $ feqL ! (λ same-edges. move ! (1 ∷ []) $
         fsplit ! $ fsplit ! $ move ! (1 ∷ []) $ feqL ! (λ same-list. move ! (1 ∷ []) $
@@ -272,7 +273,7 @@ module _ {M : Type 1} (𝓤 : URA M) (H : Heap 𝓤) (A : Atoms 𝓤) (W : Given
 
   -- the locals are there, the arguments are stored, and the lent struct is opened
   abbrev pub Entered : List (Item 𝓤)
-  Entered = Shut 𝓤 p (p .old) (Tokens 𝓤 p (Slices 𝓤 p (deaths 𝓤 H E ∷ room word l₀ ∷ room (reads 0 u64) l₁ ∷ room (reads 1 u64) l₂ ∷ room (writes 2 u64) l₃ ∷ room (writes 3 u64) l₄ ∷ room (writes 4 T.the-row) l₅ ∷ room (writes 5 T.the-row) l₆ ∷ room Te′.mir l₇ ∷ room word l₈ ∷ room lent-struct l₉ ∷ room Hs′.mir l₁₀ ∷ room K′.mir l₁₁ ∷ room S′.mir l₁₂ ∷ room P′.mir l₁₃ ∷ room Hs′.mir l₁₄ ∷ room word-ref l₁₅ ∷ room word-slice l₁₆ ∷ room word-ref l₁₇ ∷ room word-slice l₁₈ ∷ room record-ref l₁₉ ∷ room record-slice l₂₀ ∷ room record-ref l₂₁ ∷ room record-slice l₂₂ ∷ ‵ ftrue ∷ [])))
+  Entered = Shut 𝓤 p (p .old) (Tokens 𝓤 p (Slices 𝓤 p (deaths 𝓤 H E ∷ room word l₀ ∷ room (reads 0 u64) l₁ ∷ room (reads 1 u64) l₂ ∷ room (writes 2 u64) l₃ ∷ room (writes 3 u64) l₄ ∷ room (writes 4 T.the-row) l₅ ∷ room (writes 5 u64) l₆ ∷ room Te′.mir l₇ ∷ room word l₈ ∷ room lent-struct l₉ ∷ room Hs′.mir l₁₀ ∷ room K′.mir l₁₁ ∷ room S′.mir l₁₂ ∷ room P′.mir l₁₃ ∷ room Hs′.mir l₁₄ ∷ room word-ref l₁₅ ∷ room word-slice l₁₆ ∷ room word-ref l₁₇ ∷ room word-slice l₁₈ ∷ room record-ref l₁₉ ∷ room record-slice l₂₀ ∷ room word-ref l₂₁ ∷ room word-slice l₂₂ ∷ ‵ ftrue ∷ [])))
 
   pub passed : Sq W Entered (passes E₁ (passed-vals p) (runs (𝓣 .C) (𝓣 .Λ) E pieces.t-1 (atRet E (Post 𝓤 H A mem run p))))
   passed =

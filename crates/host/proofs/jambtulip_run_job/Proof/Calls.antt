@@ -36,7 +36,7 @@ use Rattle.job_text.proofs.ReadJob as R
 use Rattle.pick.proofs.Rows.{picked-makes}
 use Rattle.job.proofs.Rows.{output-makes, read-makes}
 use Rattle.records.specs.Structs.{places}
-use Rattle.pick.specs.Picks.{heldIn}
+use Rattle.pick_steps.specs.Tried.{heldIn}
 use Rattle.border.specs.Border.{numberOf, shownOf}
 use Rattle.jobs.specs.Page.{answerOf}
 use Rattle.page_text.specs.Says.{Says}
@@ -74,7 +74,7 @@ pub record Passed : Type 0 where
   pub nodes : RefT (List ℕ)
   pub edges : RefT (List ℕ)
   pub list : RefT (List Record)
-  pub scratch : RefT (List Record)
+  pub scratch : RefT (List ℕ)
   pub block : ℕ
   pub offset : ℕ
   pub name : GName
@@ -83,7 +83,7 @@ pub record Passed : Type 0 where
   pub nodes-room : Room u64 (length (nodes .now))
   pub edges-room : Room u64 (length (edges .now))
   pub list-room : Room T.the-row (length (list .now))
-  pub scratch-room : Room T.the-row (length (scratch .now))
+  pub scratch-room : Room u64 (length (scratch .now))
 
 -- the contracts of the functions that are called
 module _ {M : Type 1} (𝓤 : URA M) (H : Heap 𝓤) (A : Atoms 𝓤) (mem : Memory → SProp 𝓤) (run : Routine → Fun 𝓤) where
@@ -139,11 +139,11 @@ module _ (p : Passed) where
   List-owned = MutSlice (named 3) (p .κ₃) T.the-row .own (p .list) (list-val ∷ [])
 
   abbrev pub Scratch-owned : Fml
-  Scratch-owned = MutSlice (named 4) (p .κ₄) T.the-row .own (p .scratch) (scratch-val ∷ [])
+  Scratch-owned = MutSlice (named 4) (p .κ₄) u64 .own (p .scratch) (scratch-val ∷ [])
 
   -- what lists and tables hold at the entry
   abbrev pub held : Held
-  held = heldIn (places (p .list .now)) (p .nodes .now) (p .edges .now) (places (p .scratch .now))
+  held = heldIn (places (p .list .now)) (p .nodes .now) (p .edges .now) (p .scratch .now)
 
 -- the lent struct's machine value when it is opened
 pub record Lent (p : Passed) : Type 0 where
@@ -165,8 +165,8 @@ pub record Ended (p : Passed) (job : Read p) : Type 0 where
   pub ns : List ℕ
   pub es : List ℕ
   pub rs : List Record
-  pub xs : List Record
-  pub told : leftIn value (heldIn (places rs) ns es (places xs)) ≡ leftIf (is-run (job .value)) (job .value) (held p)
+  pub xs : List ℕ
+  pub told : leftIn value (heldIn (places rs) ns es xs) ≡ leftIf (is-run (job .value)) (job .value) (held p)
   pub same-nodes : length ns ≡ length (p .nodes .now)
   pub same-edges : length es ≡ length (p .edges .now)
   pub same-list : length rs ≡ length (p .list .now)
@@ -174,7 +174,7 @@ pub record Ended (p : Passed) (job : Read p) : Type 0 where
 
 -- what lists and tables hold after it
 abbrev pub left-held : {p : Passed} {job : Read p} → Ended p job → Held
-left-held x = heldIn (places (x .rs)) (x .ns) (x .es) (places (x .xs))
+left-held x = heldIn (places (x .rs)) (x .ns) (x .es) (x .xs)
 
 -- what `answer_of` gives, with its machine value
 pub record Answered (p : Passed) (job : Read p) (ending : Ended p job) : Type 0 where
@@ -212,7 +212,7 @@ module _ {M : Type 1} (𝓤 : URA M) (H : Heap 𝓤) (A : Atoms 𝓤) (mem : Mem
       qed W (‵ (flft (p .κ₀) (p .q₀)) ∷ ‵ (Text-owned p) ∷ []) ∵ nothing ! $ move ! (1 ∷ 0 ∷ []) $ join ! $ nothing ! $ move ! (2 ∷ 0 ∷ []) $ fjoin ! $ move ! (1 ∷ 0 ∷ []) $ join ! $ frame ! $ done !
 
   module _ (job : Read p) where
-    abbrev pub ending-args : ReadJob × (RefT (List ℕ) × (RefT (List ℕ) × (RefT (List Record) × (RefT (List Record) × Unit {0}))))
+    abbrev pub ending-args : ReadJob × (RefT (List ℕ) × (RefT (List ℕ) × (RefT (List Record) × (RefT (List ℕ) × Unit {0}))))
     ending-args = (job .value, (p .nodes, (p .edges, (p .list, (p .scratch, tt)))))
 
     abbrev pub to-ending : RunC 𝓤 H A mem run .Ghost

@@ -56,7 +56,7 @@ use Rattle.host.proofs.Kept.{runs-for}
 use Rattle.jobs.specs.Page.{answerOf}
 use Rattle.page_text.specs.Says.{Says}
 use Rattle.job_text.specs.Reads.{Reads}
-use Rattle.pick.specs.Picks.{heldIn}
+use Rattle.pick_steps.specs.Tried.{heldIn}
 use Rattle.job_run.specs.Runs.{endingOf, leftIn}
 use Rattle.job.specs.Answered.{leftIf}
 use Rattle.job.proofs.Last.{Last, heldAt}
@@ -74,14 +74,14 @@ use Rattle.host.proofs.jambtulip_run_job.Proof.Calls.{Passed, Known, Le
 
 -- of what is only read nothing is kept to the end; a list or table is given up, with its last content told; the lent struct is still had
 abbrev pub stayed : Stays (f.ended .signature .params) (f.ended .kept)
-stayed = (stay-dropped (shrSliceOf (0 ∷ []) tt (plain (λ _. u8))) yes, (gave-slice (1 ∷ []) tt (plain (λ _. u64)), (gave-slice (2 ∷ []) tt (plain (λ _. u64)), (gave-slice (3 ∷ []) tt (plain (λ _. T.the-row)), (gave-slice (4 ∷ []) tt (plain (λ _. T.the-row)), (stay-ref (5 ∷ []) tt (plain (λ _. Pa.the-row)), tt))))))
+stayed = (stay-dropped (shrSliceOf (0 ∷ []) tt (plain (λ _. u8))) yes, (gave-slice (1 ∷ []) tt (plain (λ _. u64)), (gave-slice (2 ∷ []) tt (plain (λ _. u64)), (gave-slice (3 ∷ []) tt (plain (λ _. T.the-row)), (gave-slice (4 ∷ []) tt (plain (λ _. u64)), (stay-ref (5 ∷ []) tt (plain (λ _. Pa.the-row)), tt))))))
 
 abbrev lent-struct : Ty
 lent-struct = tyRef (named 5) mut (pointee (Pa.the-row .written))
 
 -- the locals as they are written here, which are the function's
 abbrev pub locals : List Local
-locals = local word valueLocal ∷ local (reads 0 u8) valueLocal ∷ local (writes 1 u64) valueLocal ∷ local (writes 2 u64) valueLocal ∷ local (writes 3 T.the-row) valueLocal ∷ local (writes 4 T.the-row) valueLocal ∷ local lent-struct valueLocal ∷ local R′.mir valueLocal ∷ local P′.mir valueLocal ∷ local O′.mir valueLocal ∷ local Pa′.mir valueLocal ∷ local word-ref valueLocal ∷ local word-slice valueLocal ∷ local word-ref valueLocal ∷ local word-slice valueLocal ∷ local record-ref valueLocal ∷ local record-slice valueLocal ∷ local record-ref valueLocal ∷ local record-slice valueLocal ∷ []
+locals = local word valueLocal ∷ local (reads 0 u8) valueLocal ∷ local (writes 1 u64) valueLocal ∷ local (writes 2 u64) valueLocal ∷ local (writes 3 T.the-row) valueLocal ∷ local (writes 4 u64) valueLocal ∷ local lent-struct valueLocal ∷ local R′.mir valueLocal ∷ local P′.mir valueLocal ∷ local O′.mir valueLocal ∷ local Pa′.mir valueLocal ∷ local word-ref valueLocal ∷ local word-slice valueLocal ∷ local word-ref valueLocal ∷ local word-slice valueLocal ∷ local record-ref valueLocal ∷ local record-slice valueLocal ∷ local word-ref valueLocal ∷ local word-slice valueLocal ∷ []
 
 pub same-locals : locals ≡ code.function .locals
 same-locals = refl
@@ -90,7 +90,7 @@ module _ (p : Passed) where
   abbrev pub ref : Page → RefT Page
   ref s = record { ptr = (p .block, p .offset); name = p .name; now = s }
 
-  abbrev pub args : RefT (List ℕ) × (RefT (List ℕ) × (RefT (List ℕ) × (RefT (List Record) × (RefT (List Record) × (RefT Page × Unit {0})))))
+  abbrev pub args : RefT (List ℕ) × (RefT (List ℕ) × (RefT (List ℕ) × (RefT (List Record) × (RefT (List ℕ) × (RefT Page × Unit {0})))))
   args = (p .text, (p .nodes, (p .edges, (p .list, (p .scratch, (ref (p .old), tt))))))
 
   abbrev pub passed-vals : List Val
@@ -116,8 +116,8 @@ module _ {M : Type 1} (𝓤 : URA M) (p : Passed) where
   abbrev pub Lists : List (Item 𝓤) → List (Item 𝓤)
   Lists Γ = ‵ (Nodes-owned p) ∷ ‵ (Edges-owned p) ∷ ‵ (List-owned p) ∷ ‵ (Scratch-owned p) ∷ Γ
 
-  abbrev pub Finals : List ℕ → List ℕ → List Record → List Record → List (Item 𝓤) → List (Item 𝓤)
-  Finals ns es rs xs Γ = ‵ (finally u64 (p .nodes .name) ns) ∷ ‵ (finally u64 (p .edges .name) es) ∷ ‵ (finally T.the-row (p .list .name) rs) ∷ ‵ (finally T.the-row (p .scratch .name) xs) ∷ Γ
+  abbrev pub Finals : List ℕ → List ℕ → List Record → List ℕ → List (Item 𝓤) → List (Item 𝓤)
+  Finals ns es rs xs Γ = ‵ (finally u64 (p .nodes .name) ns) ∷ ‵ (finally u64 (p .edges .name) es) ∷ ‵ (finally T.the-row (p .list .name) rs) ∷ ‵ (finally u64 (p .scratch .name) xs) ∷ Γ
 
   abbrev pub Shut : Page → List (Item 𝓤) → List (Item 𝓤)
   Shut s Γ = lent-shut Pa.the-row (p .κ₅) (p .q₅) (p .block) (p .offset) (p .name) s Γ
@@ -130,7 +130,7 @@ module _ {M : Type 1} (𝓤 : URA M) (H : Heap 𝓤) (A : Atoms 𝓤) (mem : Mem
   Post = walkOf 𝓤 H A f.ended stayed (f.clauses 𝓤 H A mem run) .post ((lfts p, parts p, tt, args p, vals p), tt)
 
   -- what it has at its end gives what its contract promises
-  exits : Given 𝓤 H A → (n : ℕ) (w : Val) (s : Page) (ns : List ℕ) (es : List ℕ) (rs : List Record) (xs : List Record) → Is u64 n (w ∷ []) → RunsFor (p .text .now) (held p) n s (heldIn (places rs) ns es (places xs)) → length ns ≡ length (p .nodes .now) → length es ≡ length (p .edges .now) → length rs ≡ length (p .list .now) → length xs ≡ length (p .scratch .now) → ent 𝓤 (⋆ 𝓤 H A (Shut 𝓤 p s (Tokens 𝓤 p (Finals 𝓤 p ns es rs xs [])))) (Post w)
+  exits : Given 𝓤 H A → (n : ℕ) (w : Val) (s : Page) (ns : List ℕ) (es : List ℕ) (rs : List Record) (xs : List ℕ) → Is u64 n (w ∷ []) → RunsFor (p .text .now) (held p) n s (heldIn (places rs) ns es xs) → length ns ≡ length (p .nodes .now) → length es ≡ length (p .edges .now) → length rs ≡ length (p .list .now) → length xs ≡ length (p .scratch .now) → ent 𝓤 (⋆ 𝓤 H A (Shut 𝓤 p s (Tokens 𝓤 p (Finals 𝓤 p ns es rs xs [])))) (Post w)
   exits W n w s ns es rs xs is kept same-nodes same-edges same-list same-scratch =
       qed W (Shut 𝓤 p s (Tokens 𝓤 p (Finals 𝓤 p ns es rs xs []))) ∵
       suffices ! _ (ends-at 𝓤 H A f.ended stayed (f.clauses 𝓤 H A mem run) W ((lfts p, parts p, tt, args p, vals p), tt) w n (tt, (ns, (es, (rs, (xs, (s, tt)))))) (tt, (same-nodes, (same-edges, (same-list, (same-scratch, (tt, tt))))))) $ says ! kept $
@@ -140,20 +140,20 @@ module _ {M : Type 1} (𝓤 : URA M) (H : Heap 𝓤) (A : Atoms 𝓤) (W : Given
     (l₀ l₁ l₂ l₃ l₄ l₅ l₆ l₇ l₈ l₉ l₁₀ l₁₁ l₁₂ l₁₃ l₁₄ l₁₅ l₁₆ l₁₇ l₁₈ : ℕ) where
   -- the locals after the result, and all of them
   abbrev pub E₁ : Env 𝓤 H
-  E₁ = ((reads 0 u8), l₁) ∷ ((writes 1 u64), l₂) ∷ ((writes 2 u64), l₃) ∷ ((writes 3 T.the-row), l₄) ∷ ((writes 4 T.the-row), l₅) ∷ (lent-struct, l₆) ∷ (R′.mir, l₇) ∷ (P′.mir, l₈) ∷ (O′.mir, l₉) ∷ (Pa′.mir, l₁₀) ∷ (word-ref, l₁₁) ∷ (word-slice, l₁₂) ∷ (word-ref, l₁₃) ∷ (word-slice, l₁₄) ∷ (record-ref, l₁₅) ∷ (record-slice, l₁₆) ∷ (record-ref, l₁₇) ∷ (record-slice, l₁₈) ∷ []
+  E₁ = ((reads 0 u8), l₁) ∷ ((writes 1 u64), l₂) ∷ ((writes 2 u64), l₃) ∷ ((writes 3 T.the-row), l₄) ∷ ((writes 4 u64), l₅) ∷ (lent-struct, l₆) ∷ (R′.mir, l₇) ∷ (P′.mir, l₈) ∷ (O′.mir, l₉) ∷ (Pa′.mir, l₁₀) ∷ (word-ref, l₁₁) ∷ (word-slice, l₁₂) ∷ (word-ref, l₁₃) ∷ (word-slice, l₁₄) ∷ (record-ref, l₁₅) ∷ (record-slice, l₁₆) ∷ (word-ref, l₁₇) ∷ (word-slice, l₁₈) ∷ []
 
   abbrev pub E : Env 𝓤 H
   E = (word, l₀) ∷ E₁
 
   -- the locals: the result, the parameters, what is made on the way, and the temporaries
   abbrev Cells : Item 𝓤 → Item 𝓤 → Item 𝓤 → Item 𝓤 → Item 𝓤 → List (Item 𝓤) → List (Item 𝓤)
-  Cells out job ending output shown rest = deaths 𝓤 H E ∷ out ∷ holds (reads 0 u8) l₁ (text-val p) ∷ holds (writes 1 u64) l₂ (nodes-val p) ∷ holds (writes 2 u64) l₃ (edges-val p) ∷ holds (writes 3 T.the-row) l₄ (list-val p) ∷ holds (writes 4 T.the-row) l₅ (scratch-val p) ∷ holds lent-struct l₆ (vptr (p .block) (p .offset)) ∷ job ∷ ending ∷ output ∷ shown ∷ rest
+  Cells out job ending output shown rest = deaths 𝓤 H E ∷ out ∷ holds (reads 0 u8) l₁ (text-val p) ∷ holds (writes 1 u64) l₂ (nodes-val p) ∷ holds (writes 2 u64) l₃ (edges-val p) ∷ holds (writes 3 T.the-row) l₄ (list-val p) ∷ holds (writes 4 u64) l₅ (scratch-val p) ∷ holds lent-struct l₆ (vptr (p .block) (p .offset)) ∷ job ∷ ending ∷ output ∷ shown ∷ rest
 
   abbrev Empty : List (Item 𝓤)
-  Empty = room word-ref l₁₁ ∷ room word-slice l₁₂ ∷ room word-ref l₁₃ ∷ room word-slice l₁₄ ∷ room record-ref l₁₅ ∷ room record-slice l₁₆ ∷ room record-ref l₁₇ ∷ room record-slice l₁₈ ∷ ‵ ftrue ∷ []
+  Empty = room word-ref l₁₁ ∷ room word-slice l₁₂ ∷ room word-ref l₁₃ ∷ room word-slice l₁₄ ∷ room record-ref l₁₅ ∷ room record-slice l₁₆ ∷ room word-ref l₁₇ ∷ room word-slice l₁₈ ∷ ‵ ftrue ∷ []
 
   abbrev Lent-again : List (Item 𝓤)
-  Lent-again = holds word-ref l₁₁ (vptr (p .nodes .ptr .0) (p .nodes .ptr .1)) ∷ holds word-slice l₁₂ (nodes-val p) ∷ holds word-ref l₁₃ (vptr (p .edges .ptr .0) (p .edges .ptr .1)) ∷ holds word-slice l₁₄ (edges-val p) ∷ holds record-ref l₁₅ (vptr (p .list .ptr .0) (p .list .ptr .1)) ∷ holds record-slice l₁₆ (list-val p) ∷ holds record-ref l₁₇ (vptr (p .scratch .ptr .0) (p .scratch .ptr .1)) ∷ holds record-slice l₁₈ (scratch-val p) ∷ ‵ ftrue ∷ []
+  Lent-again = holds word-ref l₁₁ (vptr (p .nodes .ptr .0) (p .nodes .ptr .1)) ∷ holds word-slice l₁₂ (nodes-val p) ∷ holds word-ref l₁₃ (vptr (p .edges .ptr .0) (p .edges .ptr .1)) ∷ holds word-slice l₁₄ (edges-val p) ∷ holds record-ref l₁₅ (vptr (p .list .ptr .0) (p .list .ptr .1)) ∷ holds record-slice l₁₆ (list-val p) ∷ holds word-ref l₁₇ (vptr (p .scratch .ptr .0) (p .scratch .ptr .1)) ∷ holds word-slice l₁₈ (scratch-val p) ∷ ‵ ftrue ∷ []
 
   -- the number is in its local
   module _ (lent : Lent p) (job : Read p) (ending : Ended p job) (output : Answered p job ending) (stored : Stored p job ending output) (number : Numbered p job ending) where
@@ -274,7 +274,7 @@ module _ {M : Type 1} (𝓤 : URA M) (H : Heap 𝓤) (A : Atoms 𝓤) (W : Given
 
   -- the locals are there, the arguments are stored, and the lent struct is opened
   abbrev pub Entered : List (Item 𝓤)
-  Entered = Shut 𝓤 p (p .old) (Tokens 𝓤 p (Slices 𝓤 p (deaths 𝓤 H E ∷ room word l₀ ∷ room (reads 0 u8) l₁ ∷ room (writes 1 u64) l₂ ∷ room (writes 2 u64) l₃ ∷ room (writes 3 T.the-row) l₄ ∷ room (writes 4 T.the-row) l₅ ∷ room lent-struct l₆ ∷ room R′.mir l₇ ∷ room P′.mir l₈ ∷ room O′.mir l₉ ∷ room Pa′.mir l₁₀ ∷ room word-ref l₁₁ ∷ room word-slice l₁₂ ∷ room word-ref l₁₃ ∷ room word-slice l₁₄ ∷ room record-ref l₁₅ ∷ room record-slice l₁₆ ∷ room record-ref l₁₇ ∷ room record-slice l₁₈ ∷ ‵ ftrue ∷ [])))
+  Entered = Shut 𝓤 p (p .old) (Tokens 𝓤 p (Slices 𝓤 p (deaths 𝓤 H E ∷ room word l₀ ∷ room (reads 0 u8) l₁ ∷ room (writes 1 u64) l₂ ∷ room (writes 2 u64) l₃ ∷ room (writes 3 T.the-row) l₄ ∷ room (writes 4 u64) l₅ ∷ room lent-struct l₆ ∷ room R′.mir l₇ ∷ room P′.mir l₈ ∷ room O′.mir l₉ ∷ room Pa′.mir l₁₀ ∷ room word-ref l₁₁ ∷ room word-slice l₁₂ ∷ room word-ref l₁₃ ∷ room word-slice l₁₄ ∷ room record-ref l₁₅ ∷ room record-slice l₁₆ ∷ room word-ref l₁₇ ∷ room word-slice l₁₈ ∷ ‵ ftrue ∷ [])))
 
   pub passed : Sq W Entered (passes E₁ (passed-vals p) (runs (𝓣 .C) (𝓣 .Λ) E pieces.t-1 (atRet E (Post 𝓤 H A mem run p))))
   passed =

@@ -1,6 +1,6 @@
 -- The walk through `answer`, a lemma for each call, from the last to the first.
 use mathlib.Core.Path.{_≡_, refl, ap, subst}
-use Prim.Native.Nat.{ℕ, _<_, _≤_, _^_, min}
+use Prim.Native.Nat.{ℕ, _≤_, min}
 use native.Mathlib.Omega.{arith}
 use mathlib.Core.List.{[], _∷_, _++_, List}
 use lib.ListN.{length, replicate, take, drop as drop-list}
@@ -30,6 +30,8 @@ use denote.Steps.{only, owned, heard, facts, nothing}
 use denote.Triple.Statement.{Triple}
 use denote.Triple.Call.{calls-at}
 use denote.Triple.Clauses.{ensured, lasts}
+use Rattle.calls.specs.Compile as Call
+use Rattle.call_laws.specs.Statements.{SameLengths}
 use Rattle.records.specs.declared.Record.{Record}
 use Rattle.records.specs.Structs.{places, noRecord}
 use Rattle.records.proofs.FirstPlaces.{Kept}
@@ -37,16 +39,14 @@ use Rattle.records.proofs.Record as T
 use Rattle.records.proofs.Record.Laws as T′
 use Rattle.records.proofs.empty as empty
 use Rattle.records.proofs.empty.Symbol.{name as #records·empty}
-use Rattle.compile_records.specs.Queried.{lentOf}
-use Rattle.pick.specs.Picks.{heldIn}
 use Rattle.page_text.specs.declared.Output.{Output}
 use Rattle.page_text.proofs.Output as O
 use Rattle.page_text.proofs.Output.Laws as O′
 use Rattle.records.proofs.Entered.{AllTyped, deaths, freed, entered as all-entered}
 use Rattle.pick.proofs.Rows.{record-typed}
 use Rattle.job.specs.Answered.{Answers, Leaves}
-use Rattle.job.proofs.Answering.{empty-lists}
-use Rattle.job.proofs.OwnLists.{list-ty, Rows, long, repeated, lent-list, list-typed, list-makes, lends-list, list-back, most-open, most-scratch, room-open, room-scratch, few-open, few-scratch, large}
+use Rattle.job.proofs.Answering.{empty-list}
+use Rattle.job.proofs.OwnLists.{list-ty, Rows, long, repeated, lent-list, list-typed, list-makes, lends-list, list-back, most-open, room-open, few-open, large}
 use Rattle.job.proofs.Last.{Last, heldAt}
 use Rattle.job.proofs.Rows.{output-typed}
 use Rattle.job.proofs.smaller as smaller
@@ -55,7 +55,7 @@ use Rattle.job.proofs.run_job as whole
 use Rattle.job.proofs.run_job.Symbol.{name as #job·run-job}
 use Rattle.job.proofs.answer.Code as code
 use Rattle.job.proofs.answer.Code.Mir as pieces
-use Rattle.job.proofs.answer.Proof.Calls.{Passed, Made, Counted, text-val, nodes-val, edges-val, opens-val, spares-val, Text, Nodes, Edges, Answered, EmptyC, SmallerC, RunC, to-empty, goes-empty, told-empty, to-smaller, goes-smaller, told-smaller, run-args, run-lfts, to-run, run-tokens, goes-run, Post, Left-over, exits}
+use Rattle.job.proofs.answer.Proof.Calls.{Passed, Made, Counted, text-val, nodes-val, edges-val, scratch-val, opens-val, Text, Nodes, Edges, Scratch, lent, Answered, EmptyC, SmallerC, RunC, to-empty, goes-empty, told-empty, to-smaller, goes-smaller, told-smaller, run-args, run-lfts, to-run, run-tokens, goes-run, Post, Left-over, exits}
 
 abbrev word : Ty
 word = tyInt w64
@@ -69,7 +69,10 @@ slice₁ = sliceTy (tyRef (named 1) mut (pointee (u64 .written)))
 abbrev slice₂ : Ty
 slice₂ = sliceTy (tyRef (named 2) mut (pointee (u64 .written)))
 
--- the temporaries that lend a table again, and a list
+abbrev slice₃ : Ty
+slice₃ = sliceTy (tyRef (named 3) mut (pointee (u64 .written)))
+
+-- the temporaries that lend words again, and those that lend the list
 abbrev ref : Ty
 ref = tyRef erased mut (pointee (u64 .written))
 
@@ -79,220 +82,192 @@ slice = sliceTy ref
 abbrev refL : Ty
 refL = tyRef erased mut (pointee (Rows most-open .written))
 
-abbrev refS : Ty
-refS = tyRef erased mut (pointee (Rows most-scratch .written))
-
 abbrev sliceR : Ty
 sliceR = sliceTy (tyRef erased mut (pointee (T.the-row .written)))
 
 -- the locals behind the parameters; and all of them as they are written here, which are the function's
 abbrev others : List Local
-others = local T′.mir valueLocal ∷ local (list-ty most-open) memorySlot ∷ local (list-ty most-scratch) memorySlot ∷ local word valueLocal ∷ local word valueLocal ∷ local ref valueLocal ∷ local slice valueLocal ∷ local ref valueLocal ∷ local slice valueLocal ∷ local refL valueLocal ∷ local sliceR valueLocal ∷ local refS valueLocal ∷ local sliceR valueLocal ∷ []
+others = local T′.mir valueLocal ∷ local (list-ty most-open) memorySlot ∷ local word valueLocal ∷ local ref valueLocal ∷ local slice valueLocal ∷ local ref valueLocal ∷ local slice valueLocal ∷ local refL valueLocal ∷ local sliceR valueLocal ∷ local ref valueLocal ∷ local slice valueLocal ∷ []
 
 abbrev pub locals : List Local
-locals = local O′.mir valueLocal ∷ local slice₀ valueLocal ∷ local slice₁ valueLocal ∷ local slice₂ valueLocal ∷ local word valueLocal ∷ local word valueLocal ∷ others
+locals = local O′.mir valueLocal ∷ local slice₀ valueLocal ∷ local slice₁ valueLocal ∷ local slice₂ valueLocal ∷ local slice₃ valueLocal ∷ local word valueLocal ∷ others
 
 pub same-locals : locals ≡ code.function .locals
-unfolding list-ty most-open most-scratch
+unfolding list-ty most-open
 same-locals = refl
 
--- the code that makes the lists, with their sizes shut, and that it is the function's
+-- the code that makes the list, with its size shut, and that it is the function's
 abbrev makes : Body
-makes = seq (assign (place 7 []) (repeat (copy (place 6 [])) most-open)) (seq (assign (place 8 []) (repeat (copy (place 6 [])) most-scratch)) pieces.t-4)
+makes = seq (assign (place 7 []) (repeat (copy (place 6 [])) most-open)) pieces.t-3
 
 same-makes : makes ≡ pieces.t-2
-unfolding most-open most-scratch
+unfolding most-open
 same-makes = refl
 
 module _ {M : Type 1} (𝓤 : URA M) (H : Heap 𝓤) (A : Atoms 𝓤) (W : Given 𝓤 H A) (mem : Memory → SProp 𝓤) (run : Routine → Fun 𝓤) (p : Passed) (𝓣 : Tables 𝓤 H)
     (known-empty : Triple 𝓤 (𝓣 .C #records·empty) (EmptyC 𝓤 H A mem run))
     (known-smaller : Triple 𝓤 (𝓣 .C #job·smaller) (SmallerC 𝓤 H A mem run))
     (known-run : Triple 𝓤 (𝓣 .C #job·run-job) (RunC 𝓤 H A mem run))
-    (l₀ l₁ l₂ l₃ l₄ l₅ l₆ l₇ l₈ l₉ l₁₀ l₁₁ l₁₂ l₁₃ l₁₄ l₁₅ l₁₆ l₁₇ l₁₈ : ℕ) where
+    (l₀ l₁ l₂ l₃ l₄ l₅ l₆ l₇ l₈ l₉ l₁₀ l₁₁ l₁₂ l₁₃ l₁₄ l₁₅ l₁₆ : ℕ) where
   abbrev pub E : Env 𝓤 H
-  E = (O′.mir, l₀) ∷ (slice₀, l₁) ∷ (slice₁, l₂) ∷ (slice₂, l₃) ∷ (word, l₄) ∷ (word, l₅) ∷ (T′.mir, l₆) ∷ (list-ty most-open, l₇) ∷ (list-ty most-scratch, l₈) ∷ (word, l₉) ∷ (word, l₁₀) ∷ (ref, l₁₁) ∷ (slice, l₁₂) ∷ (ref, l₁₃) ∷ (slice, l₁₄) ∷ (refL, l₁₅) ∷ (sliceR, l₁₆) ∷ (refS, l₁₇) ∷ (sliceR, l₁₈) ∷ []
+  E = (O′.mir, l₀) ∷ (slice₀, l₁) ∷ (slice₁, l₂) ∷ (slice₂, l₃) ∷ (slice₃, l₄) ∷ (word, l₅) ∷ (T′.mir, l₆) ∷ (list-ty most-open, l₇) ∷ (word, l₈) ∷ (ref, l₉) ∷ (slice, l₁₀) ∷ (ref, l₁₁) ∷ (slice, l₁₂) ∷ (refL, l₁₃) ∷ (sliceR, l₁₄) ∷ (ref, l₁₅) ∷ (slice, l₁₆) ∷ []
 
-  -- what is held before the run, with the record, the lists, how many places of them are lent, and the temporaries
-  abbrev Cells : Item 𝓤 → Item 𝓤 → Item 𝓤 → Item 𝓤 → Item 𝓤 → List (Item 𝓤) → List (Item 𝓤)
-  Cells none list scratch many many₁ rest =
+  -- what is held before the run, with the record, the list, how many places of it are lent, and the temporaries
+  abbrev Cells : Item 𝓤 → Item 𝓤 → Item 𝓤 → List (Item 𝓤) → List (Item 𝓤)
+  Cells none list many rest =
       ‵ (flft (p .κ₀) (p .s₀))
       ∷ ‵ (flft (p .κ₁) (p .s₁))
       ∷ ‵ (flft (p .κ₂) (p .s₂))
+      ∷ ‵ (flft (p .κ₃) (p .s₃))
       ∷ ‵ (Text p)
       ∷ ‵ (Nodes p)
       ∷ ‵ (Edges p)
+      ∷ ‵ (Scratch p)
       ∷ deaths 𝓤 H E
       ∷ ‵ (froom O′.mir l₀ 0)
       ∷ ‵ (fat fullShare slice₀ l₁ 0 (text-val p))
       ∷ ‵ (fat fullShare slice₁ l₂ 0 (nodes-val p))
       ∷ ‵ (fat fullShare slice₂ l₃ 0 (edges-val p))
-      ∷ ‵ (fat fullShare word l₄ 0 (opens-val p))
-      ∷ ‵ (fat fullShare word l₅ 0 (spares-val p))
+      ∷ ‵ (fat fullShare slice₃ l₄ 0 (scratch-val p))
+      ∷ ‵ (fat fullShare word l₅ 0 (opens-val p))
       ∷ none
       ∷ list
-      ∷ scratch
       ∷ many
-      ∷ many₁
       ∷ rest
 
   abbrev Empty : List (Item 𝓤)
-  Empty = ‵ (froom ref l₁₁ 0) ∷ ‵ (froom slice l₁₂ 0) ∷ ‵ (froom ref l₁₃ 0) ∷ ‵ (froom slice l₁₄ 0) ∷ ‵ (froom refL l₁₅ 0) ∷ ‵ (froom sliceR l₁₆ 0) ∷ ‵ (froom refS l₁₇ 0) ∷ ‵ (froom sliceR l₁₈ 0) ∷ ‵ ftrue ∷ []
+  Empty = ‵ (froom ref l₉ 0) ∷ ‵ (froom slice l₁₀ 0) ∷ ‵ (froom ref l₁₁ 0) ∷ ‵ (froom slice l₁₂ 0) ∷ ‵ (froom refL l₁₃ 0) ∷ ‵ (froom sliceR l₁₄ 0) ∷ ‵ (froom ref l₁₅ 0) ∷ ‵ (froom slice l₁₆ 0) ∷ ‵ ftrue ∷ []
 
-  -- the temporaries once the tables and n and m places of the lists are lent
-  abbrev Lent : ℕ → ℕ → List (Item 𝓤)
-  Lent n m =
-      ‵ (fat fullShare ref l₁₁ 0 (vptr (p .nodes .ptr .0) (p .nodes .ptr .1)))
-      ∷ ‵ (fat fullShare slice l₁₂ 0 (nodes-val p))
-      ∷ ‵ (fat fullShare ref l₁₃ 0 (vptr (p .edges .ptr .0) (p .edges .ptr .1)))
-      ∷ ‵ (fat fullShare slice l₁₄ 0 (edges-val p))
-      ∷ ‵ (fat fullShare refL l₁₅ 0 (vptr l₇ 0))
-      ∷ ‵ (fat fullShare sliceR l₁₆ 0 (sliceVal (l₇, 0) n))
-      ∷ ‵ (fat fullShare refS l₁₇ 0 (vptr l₈ 0))
-      ∷ ‵ (fat fullShare sliceR l₁₈ 0 (sliceVal (l₈, 0) m))
+  -- the temporaries once the tables, n places of the list and the scratch list are lent
+  abbrev Lent : ℕ → List (Item 𝓤)
+  Lent n =
+      ‵ (fat fullShare ref l₉ 0 (vptr (p .nodes .ptr .0) (p .nodes .ptr .1)))
+      ∷ ‵ (fat fullShare slice l₁₀ 0 (nodes-val p))
+      ∷ ‵ (fat fullShare ref l₁₁ 0 (vptr (p .edges .ptr .0) (p .edges .ptr .1)))
+      ∷ ‵ (fat fullShare slice l₁₂ 0 (edges-val p))
+      ∷ ‵ (fat fullShare refL l₁₃ 0 (vptr l₇ 0))
+      ∷ ‵ (fat fullShare sliceR l₁₄ 0 (sliceVal (l₇, 0) n))
+      ∷ ‵ (fat fullShare ref l₁₅ 0 (vptr (p .scratch .ptr .0) (p .scratch .ptr .1)))
+      ∷ ‵ (fat fullShare slice l₁₆ 0 (scratch-val p))
       ∷ ‵ ftrue
       ∷ []
 
-  -- the answer is in its local, and both lists are back in theirs
-  module _ (o : Output) (z : Val) (is : Is O.the-row o (z ∷ [])) (ns es : List ℕ) (same-nodes : length ns ≡ length (p .nodes .now)) (same-edges : length es ≡ length (p .edges .now)) (e : Answered p o ns es) (rv u v : Val) (n m : ℕ) where
+  -- the answer is in its local, and the list is back in its own
+  module _ (o : Output) (z : Val) (is : Is O.the-row o (z ∷ [])) (l : Call.Lent) (same : SameLengths l (lent p)) (e : Answered p o l) (rv u : Val) (n : ℕ) where
     abbrev Called : List (Item 𝓤)
     Called =
         ‵ (flft (p .κ₀) (p .s₀))
         ∷ ‵ (flft (p .κ₁) (p .s₁))
         ∷ ‵ (flft (p .κ₂) (p .s₂))
-        ∷ ‵ (finally u64 (p .nodes .name) ns)
-        ∷ ‵ (finally u64 (p .edges .name) es)
+        ∷ ‵ (flft (p .κ₃) (p .s₃))
+        ∷ ‵ (finally u64 (p .nodes .name) (l .nodes))
+        ∷ ‵ (finally u64 (p .edges .name) (l .edges))
+        ∷ ‵ (finally u64 (p .scratch .name) (l .records))
         ∷ deaths 𝓤 H E
         ∷ ‵ (fat fullShare O′.mir l₀ 0 z)
         ∷ ‵ (fat fullShare slice₀ l₁ 0 (text-val p))
         ∷ ‵ (fat fullShare slice₁ l₂ 0 (nodes-val p))
         ∷ ‵ (fat fullShare slice₂ l₃ 0 (edges-val p))
-        ∷ ‵ (fat fullShare word l₄ 0 (opens-val p))
-        ∷ ‵ (fat fullShare word l₅ 0 (spares-val p))
+        ∷ ‵ (fat fullShare slice₃ l₄ 0 (scratch-val p))
+        ∷ ‵ (fat fullShare word l₅ 0 (opens-val p))
         ∷ ‵ (fat fullShare T′.mir l₆ 0 rv)
         ∷ ‵ (fat fullShare (list-ty most-open) l₇ 0 u)
-        ∷ ‵ (fat fullShare (list-ty most-scratch) l₈ 0 v)
-        ∷ ‵ (fat fullShare word l₉ 0 (vint w64 n))
-        ∷ ‵ (fat fullShare word l₁₀ 0 (vint w64 m))
-        ∷ Lent n m
+        ∷ ‵ (fat fullShare word l₈ 0 (vint w64 n))
+        ∷ Lent n
 
-    finished : Sq W Called (runs (𝓣 .C) (𝓣 .Λ) E pieces.t-15 (atRet E (Post 𝓤 H A mem run p)))
+    finished : Sq W Called (runs (𝓣 .C) (𝓣 .Λ) E pieces.t-13 (atRet E (Post 𝓤 H A mem run p)))
     finished =
-        returns ! (look ! 6 refl) $ forget ! 6 refl $ forget ! 7 refl $ forget ! 8 refl $ forget ! 9 refl $ forget ! 10 refl $ forget ! 11 refl $ forget ! 12 refl $ forget ! 13 refl $ forget ! 14 refl $ forget ! 15 refl $ forget ! 16 refl $ forget ! 17 refl $ forget ! 18 refl $ forget ! 19 refl $ forget ! 20 refl $ forget ! 21 refl $ forget ! 22 refl $ forget ! 23 refl $ forget ! 24 refl $
-        move ! (6 ∷ 7 ∷ 8 ∷ 9 ∷ 10 ∷ 11 ∷ 12 ∷ 13 ∷ 14 ∷ 15 ∷ 16 ∷ 17 ∷ 18 ∷ 19 ∷ 20 ∷ 21 ∷ 22 ∷ 23 ∷ 24 ∷ 25 ∷ []) $ group ! 20 $ move ! (0 ∷ 6 ∷ []) $
-        freed W (Left-over 𝓤 H A mem run p ns es) E (prop (Post 𝓤 H A mem run p z)) (by ! (exits 𝓤 H A mem run p W o z ns es is same-nodes same-edges e))
+        returns ! (look ! 8 refl) $ forget ! 8 refl $ forget ! 9 refl $ forget ! 10 refl $ forget ! 11 refl $ forget ! 12 refl $ forget ! 13 refl $ forget ! 14 refl $ forget ! 15 refl $ forget ! 16 refl $ forget ! 17 refl $ forget ! 18 refl $ forget ! 19 refl $ forget ! 20 refl $ forget ! 21 refl $ forget ! 22 refl $ forget ! 23 refl $ forget ! 24 refl $
+        move ! (8 ∷ 9 ∷ 10 ∷ 11 ∷ 12 ∷ 13 ∷ 14 ∷ 15 ∷ 16 ∷ 17 ∷ 18 ∷ 19 ∷ 20 ∷ 21 ∷ 22 ∷ 23 ∷ 24 ∷ 25 ∷ []) $ group ! 18 $ move ! (0 ∷ 8 ∷ []) $
+        freed W (Left-over 𝓤 H A mem run p l) E (prop (Post 𝓤 H A mem run p z)) (by ! (exits 𝓤 H A mem run p W o z l is same e))
 
   module _ (c : Made) (rv : Val) where
     module _ (k : Counted p) where
       abbrev Ready : List (Item 𝓤)
-      Ready = Cells (‵ (fat fullShare T′.mir l₆ 0 rv)) (‵ (fat fullShare (list-ty most-open) l₇ 0 (c .list-val))) (‵ (fat fullShare (list-ty most-scratch) l₈ 0 (c .scratch-val))) (‵ (fat fullShare word l₉ 0 (vint w64 (k .n)))) (‵ (fat fullShare word l₁₀ 0 (vint w64 (k .m)))) (Lent (k .n) (k .m))
+      Ready = Cells (‵ (fat fullShare T′.mir l₆ 0 rv)) (‵ (fat fullShare (list-ty most-open) l₇ 0 (c .list-val))) (‵ (fat fullShare word l₈ 0 (vint w64 (k .n)))) (Lent (k .n))
 
       abbrev Told : Output → Last → Type 0
-      Told o zs = Answers (p .text .now) (lentOf (p .nodes .now) (p .edges .now) (places (take (k .m) (c .scratch)))) (places (take (k .n) (c .list))) o × Leaves (p .text .now) (heldIn (places (take (k .n) (c .list))) (p .nodes .now) (p .edges .now) (places (take (k .m) (c .scratch)))) (heldAt zs)
+      Told o zs = Answers (p .text .now) (lent p) (places (take (k .n) (c .list))) o × Leaves (p .text .now) (record { list = places (take (k .n) (c .list)); lent = lent p }) (heldAt zs)
 
       few-n : k .n ≤ most-open
       few-n = few-open (k .n) (p .opens) (k .n-is)
 
-      few-m : k .m ≤ most-scratch
-      few-m = few-scratch (k .m) (p .spares) (k .m-is)
-
       long-list : length (c .list) ≡ most-open
       long-list = long most-open (c .list) (c .list-val) (c .list-is)
 
-      long-scratch : length (c .scratch) ≡ most-scratch
-      long-scratch = long most-scratch (c .scratch) (c .scratch-val) (c .scratch-is)
-
       -- what was told of the first places, of as many empty ones as the contract says
-      answered : (o : Output) (zs : Last) → Told o zs → Answered p o (zs .1 .0) (zs .1 .1 .0)
-      answered o zs = empty-lists (p .text .now) (p .nodes .now) (p .edges .now) o (heldAt zs) most-open (k .n) (min (p .opens) 16384) most-scratch (k .m) (min (p .spares) 4096) (c .list) (c .scratch) few-n (c .list-empty) (k .n-is) few-m (c .scratch-empty) (k .m-is)
+      answered : (o : Output) (zs : Last) → Told o zs → Answered p o (heldAt zs .lent)
+      answered o zs = empty-list (p .text .now) (lent p) o (heldAt zs) most-open (k .n) (min (p .opens) 16384) (c .list) few-n (c .list-empty) (k .n-is)
 
-      ran : Sq W Ready (runs (𝓣 .C) (𝓣 .Λ) E pieces.t-14 (atRet E (Post 𝓤 H A mem run p)))
+      ran : Sq W Ready (runs (𝓣 .C) (𝓣 .Λ) E pieces.t-12 (atRet E (Post 𝓤 H A mem run p)))
       ran =
-          lft-new ! tt (λ α. owned ! (Rows most-open) (Is (Rows most-open)) (list-makes 𝓤 H A W most-open) (c .list) (c .list-val ∷ []) (c .list-is) $ move ! (16 ∷ 0 ∷ []) $
+          lft-new ! tt (λ α. owned ! (Rows most-open) (Is (Rows most-open)) (list-makes 𝓤 H A W most-open) (c .list) (c .list-val ∷ []) (c .list-is) $ move ! (18 ∷ 0 ∷ []) $
           use2 W (later (some (λ (γ : GName). ‵ (MutSlice (named 3) (α ∷ []) T.the-row .own (lent-list most-open (k .n) l₇ (c .list) α γ) (sliceVal (l₇, 0) (k .n) ∷ [])) ⊛ ‵ (Kept T.the-row (α ∷ []) most-open (k .n) l₇ 0 γ (c .list))))) (lends-list 𝓤 H A W most-open room-open (k .n) l₇ α few-n (named 3) (c .list) (c .list-val) long-list) $ await ! tt $ pick ! (λ γ. split ! $
-          lft-new ! tt (λ β. owned ! (Rows most-scratch) (Is (Rows most-scratch)) (list-makes 𝓤 H A W most-scratch) (c .scratch) (c .scratch-val ∷ []) (c .scratch-is) $ move ! (19 ∷ 0 ∷ []) $
-          use2 W (later (some (λ (δ : GName). ‵ (MutSlice (named 4) (β ∷ []) T.the-row .own (lent-list most-scratch (k .m) l₈ (c .scratch) β δ) (sliceVal (l₈, 0) (k .m) ∷ [])) ⊛ ‵ (Kept T.the-row (β ∷ []) most-scratch (k .m) l₈ 0 δ (c .scratch))))) (lends-list 𝓤 H A W most-scratch room-scratch (k .m) l₈ β few-m (named 4) (c .scratch) (c .scratch-val) long-scratch) $ await ! tt $ pick ! (λ δ. split ! $
-          -- [the scratch list that is lent; its lender's part; β; the list that is lent; its lender's part; α; the tokens; the text; the tables; …]
-          move ! (6 ∷ 7 ∷ 8 ∷ 5 ∷ 2 ∷ 9 ∷ 10 ∷ 11 ∷ 3 ∷ 0 ∷ []) $ group ! 10 $ use1 W (raw (RunC 𝓤 H A mem run .pre (to-run 𝓤 H A mem run p (k .n) (k .m) l₇ l₈ (c .list) (c .scratch) α γ β δ))) (goes-run 𝓤 H A mem run p (k .n) (k .m) l₇ l₈ (c .list) (c .scratch) α γ β δ W) $
-          calls-at ! (fmOf 𝓤 H (W .laws) 𝓣) (RunC 𝓤 H A mem run) known-run (to-run 𝓤 H A mem run p (k .n) (k .m) l₇ l₈ (c .list) (c .scratch) α γ β δ) (and-then ! (load ! (from ! (stop !)) (look ! 5 refl)) (and-then ! (load ! (from ! (stop !)) (look ! 14 refl)) (and-then ! (load ! (from ! (stop !)) (look ! 16 refl)) (and-then ! (load ! (from ! (stop !)) (look ! 18 refl)) (and-then ! (load ! (from ! (stop !)) (look ! 20 refl)) (no-more !)))))) (λ z.
-          use1 W (later (some (λ (o : Output). (run-tokens 𝓤 H A mem run p (k .n) (k .m) l₇ l₈ (c .list) (c .scratch) α γ β δ ⊛ ‵ (O.the-row .own o (z ∷ []))) ⊛ raw (ensured 𝓤 H A whole.ended (whole.clauses 𝓤 H A mem run) (run-lfts 𝓤 H A mem run p (k .n) (k .m) l₇ l₈ (c .list) (c .scratch) α γ β δ) (run-args 𝓤 H A mem run p (k .n) (k .m) l₇ l₈ (c .list) (c .scratch) α γ β δ) tt o)))) (id⊢ 𝓤 _) $ await ! tt $ pick ! (λ o.
-          split ! $ move ! (1 ∷ []) $ use1 W (some (λ (zs : Last). ‵ (lasts whole.ended (run-lfts 𝓤 H A mem run p (k .n) (k .m) l₇ l₈ (c .list) (c .scratch) α γ β δ) (run-args 𝓤 H A mem run p (k .n) (k .m) l₇ l₈ (c .list) (c .scratch) α γ β δ) zs) ⊛ raw (fact 𝓤 (Told o zs)))) (id⊢ 𝓤 _) $ pick ! (λ zs.
+          -- [the list that is lent; its lender's part; α; the tokens; the text; the tables; the scratch list; …]
+          move ! (3 ∷ 4 ∷ 5 ∷ 2 ∷ 6 ∷ 7 ∷ 8 ∷ 9 ∷ 0 ∷ 10 ∷ []) $ group ! 10 $ use1 W (raw (RunC 𝓤 H A mem run .pre (to-run 𝓤 H A mem run p (k .n) l₇ (c .list) α γ))) (goes-run 𝓤 H A mem run p (k .n) l₇ (c .list) α γ W) $
+          calls-at ! (fmOf 𝓤 H (W .laws) 𝓣) (RunC 𝓤 H A mem run) known-run (to-run 𝓤 H A mem run p (k .n) l₇ (c .list) α γ) (and-then ! (load ! (from ! (stop !)) (look ! 4 refl)) (and-then ! (load ! (from ! (stop !)) (look ! 12 refl)) (and-then ! (load ! (from ! (stop !)) (look ! 14 refl)) (and-then ! (load ! (from ! (stop !)) (look ! 16 refl)) (and-then ! (load ! (from ! (stop !)) (look ! 18 refl)) (no-more !)))))) (λ z.
+          use1 W (later (some (λ (o : Output). (run-tokens 𝓤 H A mem run p (k .n) l₇ (c .list) α γ ⊛ ‵ (O.the-row .own o (z ∷ []))) ⊛ raw (ensured 𝓤 H A whole.ended (whole.clauses 𝓤 H A mem run) (run-lfts 𝓤 H A mem run p (k .n) l₇ (c .list) α γ) (run-args 𝓤 H A mem run p (k .n) l₇ (c .list) α γ) tt o)))) (id⊢ 𝓤 _) $ await ! tt $ pick ! (λ o.
+          split ! $ move ! (1 ∷ []) $ use1 W (some (λ (zs : Last). ‵ (lasts whole.ended (run-lfts 𝓤 H A mem run p (k .n) l₇ (c .list) α γ) (run-args 𝓤 H A mem run p (k .n) l₇ (c .list) α γ) zs) ⊛ raw (fact 𝓤 (Told o zs)))) (id⊢ 𝓤 _) $ pick ! (λ zs.
           split ! $ move ! (1 ∷ []) $ heard ! (Told o zs) (λ e.
           fsplit ! $ drop ! $ fsplit ! $ fsplit ! $ move ! (1 ∷ []) $ feqL ! (λ same-nodes.
           move ! (1 ∷ []) $ fsplit ! $ fsplit ! $ move ! (1 ∷ []) $ feqL ! (λ same-edges.
           move ! (1 ∷ []) $ fsplit ! $ fsplit ! $ move ! (1 ∷ []) $ feqL ! (λ _.
-          move ! (1 ∷ []) $ fsplit ! $ fsplit ! $ move ! (1 ∷ []) $ feqL ! (λ _.
+          move ! (1 ∷ []) $ fsplit ! $ fsplit ! $ move ! (1 ∷ []) $ feqL ! (λ same-scratch.
           move ! (1 ∷ []) $ drop ! $ move ! (4 ∷ []) $ split ! $ move ! (1 ∷ []) $ facts ! O.the-row (Is O.the-row) (shows 𝓤 H A O.the-row) o (z ∷ []) (λ is.
-          -- [the tokens; the last scratch list; the last list; the last edges; the last nodes; the lenders' parts; …]
-          land ! (from ! (stop !)) (init ! 8 refl (output-typed 𝓤 H A W o z is)) $
+          -- [the tokens; the last scratch list; the last list; the last edges; the last nodes; the lender's part; …]
+          land ! (from ! (stop !)) (init ! 7 refl (output-typed 𝓤 H A W o z is)) $
           split ! $ move ! (1 ∷ []) $ split ! $ move ! (1 ∷ []) $ split ! $ move ! (1 ∷ []) $ split ! $ move ! (1 ∷ []) $ split ! $
-          -- [β; true; α; κ₂; κ₁; κ₀; …]
-          lft-end ! tt $ move ! (0 ∷ 10 ∷ 6 ∷ []) $
-          use3 W (later (some (λ (v : Val). ‵ (fat fullShare (list-ty most-scratch) l₈ 0 v) ⊛ ‵ (Rows most-scratch .own ((zs .1 .1 .1 .1 .0) ++ drop-list (k .m) (c .scratch)) (v ∷ []))))) (list-back 𝓤 H A W most-scratch room-scratch (k .m) l₈ β few-m (c .scratch) (zs .1 .1 .1 .1 .0) δ long-scratch) $ await ! tt $ pick ! (λ v. split ! $ move ! (1 ∷ []) $ drop ! $
-          move ! (2 ∷ []) $ lft-end ! tt $ move ! (0 ∷ 9 ∷ 6 ∷ []) $
+          -- [κ₃; true; α; κ₂; κ₁; κ₀; …]
+          move ! (2 ∷ []) $ lft-end ! tt $ move ! (0 ∷ 10 ∷ 7 ∷ []) $
           use3 W (later (some (λ (u : Val). ‵ (fat fullShare (list-ty most-open) l₇ 0 u) ⊛ ‵ (Rows most-open .own ((zs .1 .1 .1 .0) ++ drop-list (k .n) (c .list)) (u ∷ []))))) (list-back 𝓤 H A W most-open room-open (k .n) l₇ α few-n (c .list) (zs .1 .1 .1 .0) γ long-list) $ await ! tt $ pick ! (λ u. split ! $ move ! (1 ∷ []) $ drop ! $
-          keep ! (5 ∷ 4 ∷ 3 ∷ 7 ∷ 6 ∷ 8 ∷ 9 ∷ 10 ∷ 11 ∷ 12 ∷ 13 ∷ 14 ∷ 15 ∷ 0 ∷ 1 ∷ 16 ∷ 17 ∷ 18 ∷ 19 ∷ 20 ∷ 21 ∷ 22 ∷ 23 ∷ 24 ∷ 25 ∷ 26 ∷ []) $
-          finished o z is (zs .1 .0) (zs .1 .1 .0) same-nodes same-edges (answered o zs e) rv u v (k .n) (k .m))))))))))))))))
+          keep ! (5 ∷ 4 ∷ 3 ∷ 1 ∷ 8 ∷ 7 ∷ 6 ∷ 9 ∷ 10 ∷ 11 ∷ 12 ∷ 13 ∷ 14 ∷ 15 ∷ 16 ∷ 0 ∷ 17 ∷ 18 ∷ 19 ∷ 20 ∷ 21 ∷ 22 ∷ 23 ∷ 24 ∷ 25 ∷ 26 ∷ []) $
+          finished o z is (heldAt zs .lent) (record { nodes = same-nodes; edges = same-edges; records = same-scratch }) (answered o zs e) rv u (k .n)))))))))))))
 
       abbrev Sized : List (Item 𝓤)
-      Sized = Cells (‵ (fat fullShare T′.mir l₆ 0 rv)) (‵ (fat fullShare (list-ty most-open) l₇ 0 (c .list-val))) (‵ (fat fullShare (list-ty most-scratch) l₈ 0 (c .scratch-val))) (‵ (fat fullShare word l₉ 0 (vint w64 (k .n)))) (‵ (fat fullShare word l₁₀ 0 (vint w64 (k .m)))) Empty
+      Sized = Cells (‵ (fat fullShare T′.mir l₆ 0 rv)) (‵ (fat fullShare (list-ty most-open) l₇ 0 (c .list-val))) (‵ (fat fullShare word l₈ 0 (vint w64 (k .n)))) Empty
 
-      lends : Sq W Sized (runs (𝓣 .C) (𝓣 .Λ) E pieces.t-6 (atRet E (Post 𝓤 H A mem run p)))
+      lends : Sq W Sized (runs (𝓣 .C) (𝓣 .Λ) E pieces.t-4 (atRet E (Post 𝓤 H A mem run p)))
       lends =
-          assigns ! (addr ! (from ! (fld ! refl (hop ! (look-in ! 9 (sub ! 0 refl (all !))) (stop !))))) (from ! (stop !)) (init ! 18 refl (tt, tt)) $
-          assigns ! (agg ! (and-then ! (load ! (from ! (stop !)) (look ! 18 refl)) (and-then ! (load ! (from ! (fld ! refl (stop !))) (look-in ! 9 (sub ! 1 refl (all !)))) (no-more !)))) (from ! (stop !)) (init ! 19 refl (tt, (tt, (record { fits = p .nodes-room .0 }, tt)))) $
-          assigns ! (addr ! (from ! (fld ! refl (hop ! (look-in ! 10 (sub ! 0 refl (all !))) (stop !))))) (from ! (stop !)) (init ! 20 refl (tt, tt)) $
-          assigns ! (agg ! (and-then ! (load ! (from ! (stop !)) (look ! 20 refl)) (and-then ! (load ! (from ! (fld ! refl (stop !))) (look-in ! 10 (sub ! 1 refl (all !)))) (no-more !)))) (from ! (stop !)) (init ! 21 refl (tt, (tt, (record { fits = p .edges-room .0 }, tt)))) $
+          assigns ! (addr ! (from ! (fld ! refl (hop ! (look-in ! 11 (sub ! 0 refl (all !))) (stop !))))) (from ! (stop !)) (init ! 18 refl (tt, tt)) $
+          assigns ! (agg ! (and-then ! (load ! (from ! (stop !)) (look ! 18 refl)) (and-then ! (load ! (from ! (fld ! refl (stop !))) (look-in ! 11 (sub ! 1 refl (all !)))) (no-more !)))) (from ! (stop !)) (init ! 19 refl (tt, (tt, (record { fits = p .nodes-room .0 }, tt)))) $
+          assigns ! (addr ! (from ! (fld ! refl (hop ! (look-in ! 12 (sub ! 0 refl (all !))) (stop !))))) (from ! (stop !)) (init ! 20 refl (tt, tt)) $
+          assigns ! (agg ! (and-then ! (load ! (from ! (stop !)) (look ! 20 refl)) (and-then ! (load ! (from ! (fld ! refl (stop !))) (look-in ! 12 (sub ! 1 refl (all !)))) (no-more !)))) (from ! (stop !)) (init ! 21 refl (tt, (tt, (record { fits = p .edges-room .0 }, tt)))) $
           assigns ! (addr ! (from ! (stop !))) (from ! (stop !)) (init ! 22 refl (tt, tt)) $
-          assigns ! (agg ! (and-then ! (load ! (from ! (stop !)) (look ! 22 refl)) (and-then ! (load ! (from ! (stop !)) (look ! 16 refl)) (no-more !)))) (from ! (stop !)) (init ! 23 refl (tt, (tt, (record { fits = k .n-fits }, tt)))) $
-          assigns ! (addr ! (from ! (stop !))) (from ! (stop !)) (init ! 24 refl (tt, tt)) $
-          assigns ! (agg ! (and-then ! (load ! (from ! (stop !)) (look ! 24 refl)) (and-then ! (load ! (from ! (stop !)) (look ! 17 refl)) (no-more !)))) (from ! (stop !)) (init ! 25 refl (tt, (tt, (record { fits = k .m-fits }, tt)))) $
+          assigns ! (agg ! (and-then ! (load ! (from ! (stop !)) (look ! 22 refl)) (and-then ! (load ! (from ! (stop !)) (look ! 17 refl)) (no-more !)))) (from ! (stop !)) (init ! 23 refl (tt, (tt, (record { fits = k .n-fits }, tt)))) $
+          assigns ! (addr ! (from ! (fld ! refl (hop ! (look-in ! 13 (sub ! 0 refl (all !))) (stop !))))) (from ! (stop !)) (init ! 24 refl (tt, tt)) $
+          assigns ! (agg ! (and-then ! (load ! (from ! (stop !)) (look ! 24 refl)) (and-then ! (load ! (from ! (fld ! refl (stop !))) (look-in ! 13 (sub ! 1 refl (all !)))) (no-more !)))) (from ! (stop !)) (init ! 25 refl (tt, (tt, (record { fits = p .scratch-room .0 }, tt)))) $
           ran
 
-    module _ (n : ℕ) (n-fits : n < 2 ^ 64) (n-is : n ≡ min (p .opens) 16384) where
-      abbrev Half : List (Item 𝓤)
-      Half = Cells (‵ (fat fullShare T′.mir l₆ 0 rv)) (‵ (fat fullShare (list-ty most-open) l₇ 0 (c .list-val))) (‵ (fat fullShare (list-ty most-scratch) l₈ 0 (c .scratch-val))) (‵ (fat fullShare word l₉ 0 (vint w64 n))) (‵ (froom word l₁₀ 0)) Empty
-
-      counts-scratch : Sq W Half (runs (𝓣 .C) (𝓣 .Λ) E pieces.t-5 (atRet E (Post 𝓤 H A mem run p)))
-      counts-scratch =
-          nothing ! $ use1 W (raw (SmallerC 𝓤 H A mem run .pre (to-smaller 𝓤 H A mem run (p .spares) 4096))) (goes-smaller 𝓤 H A mem run (p .spares) 4096 W (p .spares-fits) (omega arith)) $
-          calls-at ! (fmOf 𝓤 H (W .laws) 𝓣) (SmallerC 𝓤 H A mem run) known-smaller (to-smaller 𝓤 H A mem run (p .spares) 4096) (and-then ! (load ! (from ! (stop !)) (look ! 13 refl)) (and-then ! (large ! record { fits = omega arith }) (no-more !))) (λ v.
-          use1 W (later (some (λ (x : ℕ). (‵ ftrue ⊛ ‵ (usize .own x (v ∷ []))) ⊛ raw (ensured 𝓤 H A smaller.ended (smaller.clauses 𝓤 H A mem run) tt (p .spares, (4096, tt)) tt x)))) (id⊢ 𝓤 _) $ await ! tt $ pick ! (λ x.
-          split ! $ move ! (1 ∷ []) $ use1 W (raw (fact 𝓤 (x ≡ min (p .spares) 4096))) (told-smaller 𝓤 H A mem run (p .spares) 4096 x) $ heard ! (x ≡ min (p .spares) 4096) (λ e.
-          split ! $ move ! (1 ∷ []) $ facts ! usize (Is usize) (shows 𝓤 H A usize) x (v ∷ []) (λ is.
-          land ! (from ! (stop !)) (init ! 18 refl (uint-lawful 𝓤 H A W w64 .typed x _ is .0)) $ drop ! $ rewrite ! 17 (λ (y : Val). ‵ (fat fullShare word l₁₀ 0 y)) (ap only (is .0)) refl $
-          lends record { n = n; m = x; n-fits = n-fits; m-fits = is .1; n-is = n-is; m-is = e }))))
-
     abbrev Filled : List (Item 𝓤)
-    Filled = Cells (‵ (fat fullShare T′.mir l₆ 0 rv)) (‵ (fat fullShare (list-ty most-open) l₇ 0 (c .list-val))) (‵ (fat fullShare (list-ty most-scratch) l₈ 0 (c .scratch-val))) (‵ (froom word l₉ 0)) (‵ (froom word l₁₀ 0)) Empty
+    Filled = Cells (‵ (fat fullShare T′.mir l₆ 0 rv)) (‵ (fat fullShare (list-ty most-open) l₇ 0 (c .list-val))) (‵ (froom word l₈ 0)) Empty
 
-    counts : Sq W Filled (runs (𝓣 .C) (𝓣 .Λ) E pieces.t-4 (atRet E (Post 𝓤 H A mem run p)))
+    counts : Sq W Filled (runs (𝓣 .C) (𝓣 .Λ) E pieces.t-3 (atRet E (Post 𝓤 H A mem run p)))
     counts =
         nothing ! $ use1 W (raw (SmallerC 𝓤 H A mem run .pre (to-smaller 𝓤 H A mem run (p .opens) 16384))) (goes-smaller 𝓤 H A mem run (p .opens) 16384 W (p .opens-fits) (omega arith)) $
-        calls-at ! (fmOf 𝓤 H (W .laws) 𝓣) (SmallerC 𝓤 H A mem run) known-smaller (to-smaller 𝓤 H A mem run (p .opens) 16384) (and-then ! (load ! (from ! (stop !)) (look ! 12 refl)) (and-then ! (large ! record { fits = omega arith }) (no-more !))) (λ v.
+        calls-at ! (fmOf 𝓤 H (W .laws) 𝓣) (SmallerC 𝓤 H A mem run) known-smaller (to-smaller 𝓤 H A mem run (p .opens) 16384) (and-then ! (load ! (from ! (stop !)) (look ! 15 refl)) (and-then ! (large ! record { fits = omega arith }) (no-more !))) (λ v.
         use1 W (later (some (λ (x : ℕ). (‵ ftrue ⊛ ‵ (usize .own x (v ∷ []))) ⊛ raw (ensured 𝓤 H A smaller.ended (smaller.clauses 𝓤 H A mem run) tt (p .opens, (16384, tt)) tt x)))) (id⊢ 𝓤 _) $ await ! tt $ pick ! (λ x.
         split ! $ move ! (1 ∷ []) $ use1 W (raw (fact 𝓤 (x ≡ min (p .opens) 16384))) (told-smaller 𝓤 H A mem run (p .opens) 16384 x) $ heard ! (x ≡ min (p .opens) 16384) (λ e.
         split ! $ move ! (1 ∷ []) $ facts ! usize (Is usize) (shows 𝓤 H A usize) x (v ∷ []) (λ is.
-        land ! (from ! (stop !)) (init ! 17 refl (uint-lawful 𝓤 H A W w64 .typed x _ is .0)) $ drop ! $ rewrite ! 16 (λ (y : Val). ‵ (fat fullShare word l₉ 0 y)) (ap only (is .0)) refl $
-        counts-scratch x (is .1) e))))
+        land ! (from ! (stop !)) (init ! 18 refl (uint-lawful 𝓤 H A W w64 .typed x _ is .0)) $ drop ! $ rewrite ! 17 (λ (y : Val). ‵ (fat fullShare word l₈ 0 y)) (ap only (is .0)) refl $
+        lends record { n = x; n-fits = is .1; n-is = e }))))
 
   module _ (r : Record) (rv : Val) (r-is : Is T.the-row r (rv ∷ [])) (r-empty : r ≡ noRecord) where
     abbrev made : Made
-    made = record { list = replicate most-open r; list-val = arrayVal (replicate most-open rv); scratch = replicate most-scratch r; scratch-val = arrayVal (replicate most-scratch rv); list-is = repeated most-open r rv r-is; scratch-is = repeated most-scratch r rv r-is; list-empty = ap (replicate most-open) r-empty; scratch-empty = ap (replicate most-scratch) r-empty }
+    made = record { list = replicate most-open r; list-val = arrayVal (replicate most-open rv); list-is = repeated most-open r rv r-is; list-empty = ap (replicate most-open) r-empty }
 
     abbrev Got : List (Item 𝓤)
-    Got = Cells (‵ (fat fullShare T′.mir l₆ 0 rv)) (‵ (froom (list-ty most-open) l₇ 0)) (‵ (froom (list-ty most-scratch) l₈ 0)) (‵ (froom word l₉ 0)) (‵ (froom word l₁₀ 0)) Empty
+    Got = Cells (‵ (fat fullShare T′.mir l₆ 0 rv)) (‵ (froom (list-ty most-open) l₇ 0)) (‵ (froom word l₈ 0)) Empty
 
     fills-shut : Sq W Got (runs (𝓣 .C) (𝓣 .Λ) E makes (atRet E (Post 𝓤 H A mem run p)))
     fills-shut =
-        assigns ! (rep ! most-open (load ! (from ! (stop !)) (look ! 13 refl))) (from ! (stop !)) (init ! 14 refl (list-typed 𝓤 H A W most-open (replicate most-open r) (arrayVal (replicate most-open rv)) (repeated most-open r rv r-is))) $
-        assigns ! (rep ! most-scratch (load ! (from ! (stop !)) (look ! 13 refl))) (from ! (stop !)) (init ! 15 refl (list-typed 𝓤 H A W most-scratch (replicate most-scratch r) (arrayVal (replicate most-scratch rv)) (repeated most-scratch r rv r-is))) $
+        assigns ! (rep ! most-open (load ! (from ! (stop !)) (look ! 15 refl))) (from ! (stop !)) (init ! 16 refl (list-typed 𝓤 H A W most-open (replicate most-open r) (arrayVal (replicate most-open rv)) (repeated most-open r rv r-is))) $
         counts made rv
 
     fills : Sq W Got (runs (𝓣 .C) (𝓣 .Λ) E pieces.t-2 (atRet E (Post 𝓤 H A mem run p)))
     fills = subst (λ (b : Body). Sq W Got (runs (𝓣 .C) (𝓣 .Λ) E b (atRet E (Post 𝓤 H A mem run p)))) same-makes fills-shut
 
   abbrev Begun : List (Item 𝓤)
-  Begun = Cells (‵ (froom T′.mir l₆ 0)) (‵ (froom (list-ty most-open) l₇ 0)) (‵ (froom (list-ty most-scratch) l₈ 0)) (‵ (froom word l₉ 0)) (‵ (froom word l₁₀ 0)) Empty
+  Begun = Cells (‵ (froom T′.mir l₆ 0)) (‵ (froom (list-ty most-open) l₇ 0)) (‵ (froom word l₈ 0)) Empty
 
   begins : Sq W Begun (runs (𝓣 .C) (𝓣 .Λ) E pieces.t-1 (atRet E (Post 𝓤 H A mem run p)))
   begins =
@@ -301,27 +276,27 @@ module _ {M : Type 1} (𝓤 : URA M) (H : Heap 𝓤) (A : Atoms 𝓤) (W : Given
       use1 W (later (some (λ (r : Record). (‵ ftrue ⊛ ‵ (T.the-row .own r (v ∷ []))) ⊛ raw (ensured 𝓤 H A empty.ended (empty.clauses 𝓤 H A mem run) tt tt tt r)))) (id⊢ 𝓤 _) $ await ! tt $ pick ! (λ r.
       split ! $ move ! (1 ∷ []) $ use1 W (raw (fact 𝓤 (r ≡ noRecord))) (told-empty 𝓤 H A mem run r) $ heard ! (r ≡ noRecord) (λ e.
       split ! $ move ! (1 ∷ []) $ facts ! T.the-row (Is T.the-row) (shows 𝓤 H A T.the-row) r (v ∷ []) (λ is.
-      land ! (from ! (stop !)) (init ! 14 refl (record-typed 𝓤 H A W r v is)) $ drop ! $ fills r v is e))))
+      land ! (from ! (stop !)) (init ! 16 refl (record-typed 𝓤 H A W r v is)) $ drop ! $ fills r v is e))))
 
 module _ {M : Type 1} (𝓤 : URA M) (H : Heap 𝓤) (A : Atoms 𝓤) (W : Given 𝓤 H A) (mem : Memory → SProp 𝓤) (run : Routine → Fun 𝓤) (p : Passed) (𝓣 : Tables 𝓤 H)
     (known-empty : Triple 𝓤 (𝓣 .C #records·empty) (EmptyC 𝓤 H A mem run))
     (known-smaller : Triple 𝓤 (𝓣 .C #job·smaller) (SmallerC 𝓤 H A mem run))
     (known-run : Triple 𝓤 (𝓣 .C #job·run-job) (RunC 𝓤 H A mem run)) where
   abbrev pub Taken : List (Item 𝓤)
-  Taken = ‵ (flft (p .κ₀) (p .s₀)) ∷ ‵ (flft (p .κ₁) (p .s₁)) ∷ ‵ (flft (p .κ₂) (p .s₂)) ∷ ‵ (Text p) ∷ ‵ (Nodes p) ∷ ‵ (Edges p) ∷ []
+  Taken = ‵ (flft (p .κ₀) (p .s₀)) ∷ ‵ (flft (p .κ₁) (p .s₁)) ∷ ‵ (flft (p .κ₂) (p .s₂)) ∷ ‵ (flft (p .κ₃) (p .s₃)) ∷ ‵ (Text p) ∷ ‵ (Nodes p) ∷ ‵ (Edges p) ∷ ‵ (Scratch p) ∷ []
 
   abbrev pub Runs : Env 𝓤 H → Goal 𝓤 H
-  Runs E = params′ E (text-val p ∷ nodes-val p ∷ edges-val p ∷ opens-val p ∷ spares-val p ∷ []) (runs (𝓣 .C) (𝓣 .Λ) E pieces.t-1 (atRet E (Post 𝓤 H A mem run p)))
+  Runs E = params′ E (text-val p ∷ nodes-val p ∷ edges-val p ∷ scratch-val p ∷ opens-val p ∷ []) (runs (𝓣 .C) (𝓣 .Λ) E pieces.t-1 (atRet E (Post 𝓤 H A mem run p)))
 
   -- the parameters with their machine values
   abbrev passed-in : List (Ty × Val)
-  passed-in = (slice₀, text-val p) ∷ (slice₁, nodes-val p) ∷ (slice₂, edges-val p) ∷ (word, opens-val p) ∷ (word, spares-val p) ∷ []
+  passed-in = (slice₀, text-val p) ∷ (slice₁, nodes-val p) ∷ (slice₂, edges-val p) ∷ (slice₃, scratch-val p) ∷ (word, opens-val p) ∷ []
 
   passed-typed : AllTyped passed-in
-  passed-typed = ((tt, (tt, (record { fits = p .text-room .0 }, tt))), ((tt, (tt, (record { fits = p .nodes-room .0 }, tt))), ((tt, (tt, (record { fits = p .edges-room .0 }, tt))), ((tt, record { fits = p .opens-fits }), ((tt, record { fits = p .spares-fits }), tt)))))
+  passed-typed = ((tt, (tt, (record { fits = p .text-room .0 }, tt))), ((tt, (tt, (record { fits = p .nodes-room .0 }, tt))), ((tt, (tt, (record { fits = p .edges-room .0 }, tt))), ((tt, (tt, (record { fits = p .scratch-room .0 }, tt))), ((tt, record { fits = p .opens-fits }), tt)))))
 
   pub entered : Sq W Taken (allocs locals Runs)
   entered =
       all-entered W (𝓣 .C) (𝓣 .Λ) O′.mir passed-in others valueLocal pieces.t-1 Taken (Post 𝓤 H A mem run p) passed-typed (λ b bs.
-      move ! (2 ∷ 3 ∷ 4 ∷ 5 ∷ 6 ∷ 7 ∷ 1 ∷ 0 ∷ []) $
-      by ! (begins 𝓤 H A W mem run p 𝓣 known-empty known-smaller known-run b (bs .0) (bs .1 .0) (bs .1 .1 .0) (bs .1 .1 .1 .0) (bs .1 .1 .1 .1 .0) (bs .1 .1 .1 .1 .1 .0) (bs .1 .1 .1 .1 .1 .1 .0) (bs .1 .1 .1 .1 .1 .1 .1 .0) (bs .1 .1 .1 .1 .1 .1 .1 .1 .0) (bs .1 .1 .1 .1 .1 .1 .1 .1 .1 .0) (bs .1 .1 .1 .1 .1 .1 .1 .1 .1 .1 .0) (bs .1 .1 .1 .1 .1 .1 .1 .1 .1 .1 .1 .0) (bs .1 .1 .1 .1 .1 .1 .1 .1 .1 .1 .1 .1 .0) (bs .1 .1 .1 .1 .1 .1 .1 .1 .1 .1 .1 .1 .1 .0) (bs .1 .1 .1 .1 .1 .1 .1 .1 .1 .1 .1 .1 .1 .1 .0) (bs .1 .1 .1 .1 .1 .1 .1 .1 .1 .1 .1 .1 .1 .1 .1 .0) (bs .1 .1 .1 .1 .1 .1 .1 .1 .1 .1 .1 .1 .1 .1 .1 .1 .0) (bs .1 .1 .1 .1 .1 .1 .1 .1 .1 .1 .1 .1 .1 .1 .1 .1 .1 .0) .prf))
+      move ! (2 ∷ 3 ∷ 4 ∷ 5 ∷ 6 ∷ 7 ∷ 8 ∷ 9 ∷ 1 ∷ 0 ∷ []) $
+      by ! (begins 𝓤 H A W mem run p 𝓣 known-empty known-smaller known-run b (bs .0) (bs .1 .0) (bs .1 .1 .0) (bs .1 .1 .1 .0) (bs .1 .1 .1 .1 .0) (bs .1 .1 .1 .1 .1 .0) (bs .1 .1 .1 .1 .1 .1 .0) (bs .1 .1 .1 .1 .1 .1 .1 .0) (bs .1 .1 .1 .1 .1 .1 .1 .1 .0) (bs .1 .1 .1 .1 .1 .1 .1 .1 .1 .0) (bs .1 .1 .1 .1 .1 .1 .1 .1 .1 .1 .0) (bs .1 .1 .1 .1 .1 .1 .1 .1 .1 .1 .1 .0) (bs .1 .1 .1 .1 .1 .1 .1 .1 .1 .1 .1 .1 .0) (bs .1 .1 .1 .1 .1 .1 .1 .1 .1 .1 .1 .1 .1 .0) (bs .1 .1 .1 .1 .1 .1 .1 .1 .1 .1 .1 .1 .1 .1 .0) (bs .1 .1 .1 .1 .1 .1 .1 .1 .1 .1 .1 .1 .1 .1 .1 .0) .prf))

@@ -43,7 +43,7 @@ use Rattle.search.specs.Asked.{problemOf}
 use Rattle.search.proofs.Ask as K
 use Rattle.search.proofs.Picked as P
 use Rattle.jobs.specs.Left.{leftOf}
-use Rattle.pick.specs.Picks.{heldIn}
+use Rattle.pick_steps.specs.Tried.{heldIn}
 use Rattle.pick.proofs.Rows.{ask-makes, picked-makes}
 use Rattle.job_text.specs.declared.ReadJob.{ReadJob}
 use Rattle.job_run.specs.Runs.{leftIn}
@@ -72,13 +72,13 @@ pub record Passed : Type 0 where
   pub nodes : RefT (List ℕ)
   pub edges : RefT (List ℕ)
   pub list : RefT (List Record)
-  pub scratch : RefT (List Record)
+  pub scratch : RefT (List ℕ)
   pub read-val : Val
   pub read-is : Is R.the-row read (read-val ∷ [])
   pub nodes-room : Room u64 (length (nodes .now))
   pub edges-room : Room u64 (length (edges .now))
   pub list-room : Room T.the-row (length (list .now))
-  pub scratch-room : Room T.the-row (length (scratch .now))
+  pub scratch-room : Room u64 (length (scratch .now))
   pub few : read .count ≤ 64
 
 -- what is read of it in the four calls before the run: the 64 places of both arrays, how many of them hold an item, and what is asked
@@ -102,7 +102,7 @@ pub record Parts (p : Passed) : Type 0 where
 -- of what was read nothing is kept to the end; a mutable slice is given up, with its last list told
 abbrev pub stayed : Stays (f.ended .signature .params) (f.ended .kept)
 stayed =
-    (stay-dropped (plain (λ _. R.the-row)) yes, (gave-slice (0 ∷ []) tt (plain (λ _. u64)), (gave-slice (1 ∷ []) tt (plain (λ _. u64)), (gave-slice (2 ∷ []) tt (plain (λ _. T.the-row)), (gave-slice (3 ∷ []) tt (plain (λ _. T.the-row)), tt)))))
+    (stay-dropped (plain (λ _. R.the-row)) yes, (gave-slice (0 ∷ []) tt (plain (λ _. u64)), (gave-slice (1 ∷ []) tt (plain (λ _. u64)), (gave-slice (2 ∷ []) tt (plain (λ _. T.the-row)), (gave-slice (3 ∷ []) tt (plain (λ _. u64)), tt)))))
 
 -- ---- an array of 64 numbers in a local
 
@@ -154,9 +154,9 @@ module _ (p : Passed) where
 
   -- what is lent to be changed
   abbrev pub Lists : Fml
-  Lists = owns (MutSlice (named 0) (p .κ₁) u64 ∷ MutSlice (named 1) (p .κ₂) u64 ∷ MutSlice (named 2) (p .κ₃) T.the-row ∷ MutSlice (named 3) (p .κ₄) T.the-row ∷ []) (p .nodes, (p .edges, (p .list, (p .scratch, tt)))) (nodes-val ∷ [], (edges-val ∷ [], (list-val ∷ [], (scratch-val ∷ [], tt))))
+  Lists = owns (MutSlice (named 0) (p .κ₁) u64 ∷ MutSlice (named 1) (p .κ₂) u64 ∷ MutSlice (named 2) (p .κ₃) T.the-row ∷ MutSlice (named 3) (p .κ₄) u64 ∷ []) (p .nodes, (p .edges, (p .list, (p .scratch, tt)))) (nodes-val ∷ [], (edges-val ∷ [], (list-val ∷ [], (scratch-val ∷ [], tt))))
 
-  abbrev pub args : ReadJob × (RefT (List ℕ) × (RefT (List ℕ) × (RefT (List Record) × (RefT (List Record) × Unit {0}))))
+  abbrev pub args : ReadJob × (RefT (List ℕ) × (RefT (List ℕ) × (RefT (List Record) × (RefT (List ℕ) × Unit {0}))))
   args = (p .read, (p .nodes, (p .edges, (p .list, (p .scratch, tt)))))
 
   abbrev pub vals : List Val × (List Val × (List Val × (List Val × (List Val × Unit {0}))))
@@ -169,7 +169,7 @@ module _ (p : Passed) where
   shares = (p .s₁, (p .s₂, (p .s₃, (p .s₄, tt))))
 
   abbrev pub held : Held
-  held = heldIn (places (p .list .now)) (p .nodes .now) (p .edges .now) (places (p .scratch .now))
+  held = heldIn (places (p .list .now)) (p .nodes .now) (p .edges .now) (p .scratch .now)
 
 module _ {M : Type 1} (𝓤 : URA M) (p : Passed) where
   abbrev pub tokens : Item 𝓤
@@ -235,14 +235,14 @@ module _ {M : Type 1} (𝓤 : URA M) (H : Heap 𝓤) (A : Atoms 𝓤) (mem : Mem
 
 -- the last lists of what is changed, and nothing of the rest
 abbrev pub Last : Type 0
-Last = Unit {0} × (Unit {0} × (List ℕ × (List ℕ × (List Record × (List Record × (Unit {0} × Unit {0}))))))
+Last = Unit {0} × (Unit {0} × (List ℕ × (List ℕ × (List Record × (List ℕ × (Unit {0} × Unit {0}))))))
 
 abbrev pub heldAt : Last → Held
-heldAt zs = heldIn (places (zs .1 .1 .1 .1 .0)) (zs .1 .1 .0) (zs .1 .1 .1 .0) (places (zs .1 .1 .1 .1 .1 .0))
+heldAt zs = heldIn (places (zs .1 .1 .1 .1 .0)) (zs .1 .1 .0) (zs .1 .1 .1 .0) (zs .1 .1 .1 .1 .1 .0)
 
 -- The run: l₆ and l₇ are where the arrays lie, their first places lent for the lifetimes α and β.
 module _ {M : Type 1} (𝓤 : URA M) (H : Heap 𝓤) (A : Atoms 𝓤) (W : Given 𝓤 H A) (mem : Memory → SProp 𝓤) (run : Routine → Fun 𝓤) (p : Passed) (c : Parts p) (l₆ l₇ α : ℕ) (γ : GName) (β : ℕ) (δ : GName) where
-  abbrev pub run-args : RefT (List ℕ) × (RefT (List ℕ) × (RefT (List ℕ) × (RefT (List ℕ) × (RefT (List Record) × (RefT (List Record) × (Ask × Unit {0}))))))
+  abbrev pub run-args : RefT (List ℕ) × (RefT (List ℕ) × (RefT (List ℕ) × (RefT (List ℕ) × (RefT (List Record) × (RefT (List ℕ) × (Ask × Unit {0}))))))
   run-args = (first u64 (α ∷ []) 64 (c .n) l₆ 0 γ (c .weights), (first u64 (β ∷ []) 64 (c .n) l₇ 0 δ (c .profits), (p .nodes, (p .edges, (p .list, (p .scratch, (c .ask, tt)))))))
 
   abbrev pub run-lfts : Lfts 6

@@ -67,7 +67,7 @@ abbrev slice₃ : Ty
 slice₃ = sliceTy (tyRef (named 2) mut (pointee (T.the-row .written)))
 
 abbrev slice₄ : Ty
-slice₄ = sliceTy (tyRef (named 3) mut (pointee (T.the-row .written)))
+slice₄ = sliceTy (tyRef (named 3) mut (pointee (u64 .written)))
 
 -- the temporaries that lend an array and its first places
 abbrev refA : Ty
@@ -91,7 +91,7 @@ sliceR = sliceTy refR
 
 -- the locals behind the parameters; and all of them as they are written here, which are the function's
 abbrev others : List Local
-others = local numbers-ty memorySlot ∷ local numbers-ty memorySlot ∷ local word valueLocal ∷ local K′.mir valueLocal ∷ local numbers-ty valueLocal ∷ local refA valueLocal ∷ local sliceA valueLocal ∷ local refA valueLocal ∷ local sliceA valueLocal ∷ local ref valueLocal ∷ local slice valueLocal ∷ local ref valueLocal ∷ local slice valueLocal ∷ local refR valueLocal ∷ local sliceR valueLocal ∷ local refR valueLocal ∷ local sliceR valueLocal ∷ []
+others = local numbers-ty memorySlot ∷ local numbers-ty memorySlot ∷ local word valueLocal ∷ local K′.mir valueLocal ∷ local numbers-ty valueLocal ∷ local refA valueLocal ∷ local sliceA valueLocal ∷ local refA valueLocal ∷ local sliceA valueLocal ∷ local ref valueLocal ∷ local slice valueLocal ∷ local ref valueLocal ∷ local slice valueLocal ∷ local refR valueLocal ∷ local sliceR valueLocal ∷ local ref valueLocal ∷ local slice valueLocal ∷ []
 
 abbrev pub locals : List Local
 locals = local P′.mir valueLocal ∷ local R′.mir valueLocal ∷ local slice₁ valueLocal ∷ local slice₂ valueLocal ∷ local slice₃ valueLocal ∷ local slice₄ valueLocal ∷ others
@@ -107,7 +107,7 @@ module _ {M : Type 1} (𝓤 : URA M) (H : Heap 𝓤) (A : Atoms 𝓤) (W : Given
     (known-run : Triple 𝓤 (𝓣 .C #job-run·run) (RunC 𝓤 H A mem run))
     (l₀ l₁ l₂ l₃ l₄ l₅ l₆ l₇ l₈ l₉ l₁₀ l₁₁ l₁₂ l₁₃ l₁₄ l₁₅ l₁₆ l₁₇ l₁₈ l₁₉ l₂₀ l₂₁ l₂₂ : ℕ) where
   abbrev pub E : Env 𝓤 H
-  E = (P′.mir, l₀) ∷ (R′.mir, l₁) ∷ (slice₁, l₂) ∷ (slice₂, l₃) ∷ (slice₃, l₄) ∷ (slice₄, l₅) ∷ (numbers-ty, l₆) ∷ (numbers-ty, l₇) ∷ (word, l₈) ∷ (K′.mir, l₉) ∷ (numbers-ty, l₁₀) ∷ (refA, l₁₁) ∷ (sliceA, l₁₂) ∷ (refA, l₁₃) ∷ (sliceA, l₁₄) ∷ (ref, l₁₅) ∷ (slice, l₁₆) ∷ (ref, l₁₇) ∷ (slice, l₁₈) ∷ (refR, l₁₉) ∷ (sliceR, l₂₀) ∷ (refR, l₂₁) ∷ (sliceR, l₂₂) ∷ []
+  E = (P′.mir, l₀) ∷ (R′.mir, l₁) ∷ (slice₁, l₂) ∷ (slice₂, l₃) ∷ (slice₃, l₄) ∷ (slice₄, l₅) ∷ (numbers-ty, l₆) ∷ (numbers-ty, l₇) ∷ (word, l₈) ∷ (K′.mir, l₉) ∷ (numbers-ty, l₁₀) ∷ (refA, l₁₁) ∷ (sliceA, l₁₂) ∷ (refA, l₁₃) ∷ (sliceA, l₁₄) ∷ (ref, l₁₅) ∷ (slice, l₁₆) ∷ (ref, l₁₇) ∷ (slice, l₁₈) ∷ (refR, l₁₉) ∷ (sliceR, l₂₀) ∷ (ref, l₂₁) ∷ (slice, l₂₂) ∷ []
 
   -- the parameters in their locals, with what the five behind them hold, and room for the answer
   abbrev Cells : Item 𝓤 → Item 𝓤 → Item 𝓤 → Item 𝓤 → Item 𝓤 → List (Item 𝓤) → List (Item 𝓤)
@@ -138,8 +138,8 @@ module _ {M : Type 1} (𝓤 : URA M) (H : Heap 𝓤) (A : Atoms 𝓤) (W : Given
       ∷ ‵ (froom slice l₁₈ 0)
       ∷ ‵ (froom refR l₁₉ 0)
       ∷ ‵ (froom sliceR l₂₀ 0)
-      ∷ ‵ (froom refR l₂₁ 0)
-      ∷ ‵ (froom sliceR l₂₂ 0)
+      ∷ ‵ (froom ref l₂₁ 0)
+      ∷ ‵ (froom slice l₂₂ 0)
       ∷ ‵ ftrue
       ∷ []
 
@@ -157,8 +157,8 @@ module _ {M : Type 1} (𝓤 : URA M) (H : Heap 𝓤) (A : Atoms 𝓤) (W : Given
         ∷ ‵ (fat fullShare slice l₁₈ 0 (edges-val p))
         ∷ ‵ (fat fullShare refR l₁₉ 0 (vptr (p .list .ptr .0) (p .list .ptr .1)))
         ∷ ‵ (fat fullShare sliceR l₂₀ 0 (list-val p))
-        ∷ ‵ (fat fullShare refR l₂₁ 0 (vptr (p .scratch .ptr .0) (p .scratch .ptr .1)))
-        ∷ ‵ (fat fullShare sliceR l₂₂ 0 (scratch-val p))
+        ∷ ‵ (fat fullShare ref l₂₁ 0 (vptr (p .scratch .ptr .0) (p .scratch .ptr .1)))
+        ∷ ‵ (fat fullShare slice l₂₂ 0 (scratch-val p))
         ∷ ‵ ftrue
         ∷ []
 

@@ -75,8 +75,8 @@ module _ (p : Passed) (ν : ℕ) (δ : GName) where
   abbrev pub ListedLent : List Record → Fml
   ListedLent l = MutSlice (named 4) (ν ∷ []) T.the-row .own (list p δ l) (list-val p ∷ [])
 
-  abbrev pub ScratchLent : List Record → Fml
-  ScratchLent l = MutSlice (named 5) (ν ∷ []) T.the-row .own (scratch p δ l) (scratch-val p ∷ [])
+  abbrev pub ScratchLent : List ℕ → Fml
+  ScratchLent l = MutSlice (named 5) (ν ∷ []) u64 .own (scratch p δ l) (scratch-val p ∷ [])
 
 module _ {M : Type 1} (𝓤 : URA M) (H : Heap 𝓤) (A : Atoms 𝓤) (mem : Memory → SProp 𝓤) (run : Routine → Fun 𝓤) (p : Passed) where
   abbrev pub least-args : Unit {0}
@@ -137,8 +137,8 @@ module _ {M : Type 1} (𝓤 : URA M) (H : Heap 𝓤) (A : Atoms 𝓤) (mem : Mem
         qed W (‵ ftrue ∷ []) ∵
         nothing ! $ owned ! P.the-row (Is P.the-row) (picked-makes 𝓤 H A) c (cv ∷ []) ci $ fjoin ! $ move ! (1 ∷ 0 ∷ []) $ join ! $ frame ! $ done !
 
-  module _ (c : Picked) (cv : Val) (ci : Is P.the-row c (cv ∷ [])) (ns es : List ℕ) (rs xs : List Record) (ν₂ ν₃ ν₄ ν₅ : ℕ) (δ₂ δ₃ δ₄ δ₅ : GName) where
-    abbrev pub turn-args : RefT (List ℕ) × (RefT (List ℕ) × (RefT (List ℕ) × (RefT (List ℕ) × (RefT (List Record) × (RefT (List Record) × (Ask × (Picked × Unit {0})))))))
+  module _ (c : Picked) (cv : Val) (ci : Is P.the-row c (cv ∷ [])) (ns es : List ℕ) (rs : List Record) (xs : List ℕ) (ν₂ ν₃ ν₄ ν₅ : ℕ) (δ₂ δ₃ δ₄ δ₅ : GName) where
+    abbrev pub turn-args : RefT (List ℕ) × (RefT (List ℕ) × (RefT (List ℕ) × (RefT (List ℕ) × (RefT (List Record) × (RefT (List ℕ) × (Ask × (Picked × Unit {0})))))))
     turn-args = (p .weights, (p .profits, (nodes p δ₂ ns, (edges p δ₃ es, (list p δ₄ rs, (scratch p δ₅ xs, (p .ask, (c, tt))))))))
 
     abbrev pub to-turn : TurnC 𝓤 H A mem run .Ghost

@@ -26,14 +26,14 @@ use Rattle.records.specs.declared.Record.{Record}
 use Rattle.records.specs.Structs.{places}
 use Rattle.records.proofs.Record as T
 use Rattle.cutset.specs.Whole.{kindOf}
-use Rattle.searches.specs.Compile.{Lent}
+use Rattle.calls.specs.Compile.{Lent}
 use Rattle.searches.specs.Pick.{Held}
 use Rattle.search.specs.declared.Ask.{Ask}
 use Rattle.search.specs.declared.Picked.{Picked}
 use Rattle.search.specs.Asked.{problemOf}
 use Rattle.search.proofs.Ask as K
 use Rattle.search.proofs.Picked as P
-use Rattle.pick.specs.Picks.{heldIn}
+use Rattle.pick_steps.specs.Tried.{heldIn}
 use Rattle.pick.proofs.Rows.{ask-makes, picked-makes}
 use Rattle.jobs.specs.Run.{Ending, runOf}
 use Rattle.jobs.specs.Left.{runLeaves, left}
@@ -44,10 +44,10 @@ use Rattle.job_run.proofs.run as f
 -- the four slices are still had at the end
 abbrev pub stayed : Stays (f.ended .signature .params) (f.ended .kept)
 stayed =
-    (stay-none-slice (0 ∷ []) tt (plain (λ _. u64)) yes, (stay-none-slice (1 ∷ []) tt (plain (λ _. u64)) yes, (stay-slice (2 ∷ []) tt (plain (λ _. u64)), (stay-slice (3 ∷ []) tt (plain (λ _. u64)), (stay-slice (4 ∷ []) tt (plain (λ _. T.the-row)), (stay-slice (5 ∷ []) tt (plain (λ _. T.the-row)), (stay-none (λ _. K.the-row) yes, tt)))))))
+    (stay-none-slice (0 ∷ []) tt (plain (λ _. u64)) yes, (stay-none-slice (1 ∷ []) tt (plain (λ _. u64)) yes, (stay-slice (2 ∷ []) tt (plain (λ _. u64)), (stay-slice (3 ∷ []) tt (plain (λ _. u64)), (stay-slice (4 ∷ []) tt (plain (λ _. T.the-row)), (stay-slice (5 ∷ []) tt (plain (λ _. u64)), (stay-none (λ _. K.the-row) yes, tt)))))))
 
 module _ (p : Passed) where
-  abbrev pub args : RefT (List ℕ) × (RefT (List ℕ) × (RefT (List ℕ) × (RefT (List ℕ) × (RefT (List Record) × (RefT (List Record) × (Ask × Unit {0}))))))
+  abbrev pub args : RefT (List ℕ) × (RefT (List ℕ) × (RefT (List ℕ) × (RefT (List ℕ) × (RefT (List Record) × (RefT (List ℕ) × (Ask × Unit {0}))))))
   args = (p .weights, (p .profits, (nodes p (p .nodes-name) (p .nodes-now), (edges p (p .edges-name) (p .edges-now), (list p (p .list-name) (p .list-now), (scratch p (p .scratch-name) (p .scratch-now), (p .ask, tt)))))))
 
   abbrev pub vals : List Val × (List Val × (List Val × (List Val × (List Val × (List Val × (List Val × Unit {0}))))))
@@ -67,7 +67,7 @@ module _ (p : Passed) where
   kind = kindOf (p .ask .kind)
 
   abbrev pub held : Held
-  held = heldIn (places (p .list-now)) (p .nodes-now) (p .edges-now) (places (p .scratch-now))
+  held = heldIn (places (p .list-now)) (p .nodes-now) (p .edges-now) (p .scratch-now)
 
   abbrev pub lent : Lent
   lent = held .lent
@@ -82,7 +82,7 @@ module _ {M : Type 1} (𝓤 : URA M) (H : Heap 𝓤) (A : Atoms 𝓤) (mem : Mem
   abbrev pub Post : Val → SProp 𝓤
   Post = walkOf 𝓤 H A f.ended stayed (f.clauses 𝓤 H A mem run) .post ((lfts p, parts p, tt, args p, vals p), tt)
 
-  pub exits : Given 𝓤 H A → (c : Picked) (cv : Val) (ns es : List ℕ) (rs xs : List Record) → Is P.the-row c (cv ∷ []) → leftIn c (heldIn (places rs) ns es (places xs)) ≡ left (ending p) (leaves p)
+  pub exits : Given 𝓤 H A → (c : Picked) (cv : Val) (ns es : List ℕ) (rs : List Record) (xs : List ℕ) → Is P.the-row c (cv ∷ []) → leftIn c (heldIn (places rs) ns es xs) ≡ left (ending p) (leaves p)
       → length ns ≡ length (p .nodes-now) → length es ≡ length (p .edges-now) → length rs ≡ length (p .list-now) → length xs ≡ length (p .scratch-now)
       → ent 𝓤 (⋆ 𝓤 H A (‵ (flft (p .κ₀) (p .q₀)) ∷ ‵ (flft (p .κ₁) (p .q₁)) ∷ ‵ (flft (p .κ₂) (p .q₂)) ∷ ‵ (flft (p .κ₃) (p .q₃)) ∷ ‵ (flft (p .κ₄) (p .q₄)) ∷ ‵ (flft (p .κ₅) (p .q₅)) ∷ ‵ (Weights p) ∷ ‵ (Profits p) ∷ ‵ (Nodes p ns) ∷ ‵ (Edges p es) ∷ ‵ (Listed p rs) ∷ ‵ (Scratch p xs) ∷ [])) (Post cv)
   exits W c cv ns es rs xs ci kept same-nodes same-edges same-list same-scratch =

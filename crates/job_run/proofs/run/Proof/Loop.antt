@@ -44,7 +44,8 @@ use Rattle.search.proofs.Ask.Laws as K′
 use Rattle.search.proofs.Started.Laws as B′
 use Rattle.search.proofs.Picked as P
 use Rattle.search.proofs.Picked.Laws as P′
-use Rattle.pick.specs.Picks.{heldIn, Picks}
+use Rattle.pick_steps.specs.Tried.{heldIn}
+use Rattle.pick.specs.Picks.{Picks}
 use Rattle.records.proofs.Entered.{deaths, freed}
 use Rattle.pick.proofs.Rows.{picked-typed}
 use Rattle.jobs.specs.Run.{askedFor}
@@ -82,7 +83,7 @@ abbrev pub slice₄ : Ty
 slice₄ = sliceTy (tyRef (named 4) mut (pointee (T.the-row .written)))
 
 abbrev pub slice₅ : Ty
-slice₅ = sliceTy (tyRef (named 5) mut (pointee (T.the-row .written)))
+slice₅ = sliceTy (tyRef (named 5) mut (pointee (u64 .written)))
 
 abbrev pub lent-ref : Ty
 lent-ref = tyRef erased mut (pointee (u64 .written))
@@ -98,7 +99,7 @@ record-slice = sliceTy record-lent
 
 -- the locals behind the parameters; and all of them as they are written here, which are the function's
 abbrev pub others : List Local
-others = local word valueLocal ∷ local B′.mir valueLocal ∷ local P′.mir valueLocal ∷ local record-lent valueLocal ∷ local record-slice valueLocal ∷ local tyBool valueLocal ∷ local lent-ref valueLocal ∷ local lent-slice valueLocal ∷ local lent-ref valueLocal ∷ local lent-slice valueLocal ∷ local record-lent valueLocal ∷ local record-slice valueLocal ∷ local record-lent valueLocal ∷ local record-slice valueLocal ∷ []
+others = local word valueLocal ∷ local B′.mir valueLocal ∷ local P′.mir valueLocal ∷ local record-lent valueLocal ∷ local record-slice valueLocal ∷ local tyBool valueLocal ∷ local lent-ref valueLocal ∷ local lent-slice valueLocal ∷ local lent-ref valueLocal ∷ local lent-slice valueLocal ∷ local record-lent valueLocal ∷ local record-slice valueLocal ∷ local lent-ref valueLocal ∷ local lent-slice valueLocal ∷ []
 
 abbrev pub locals : List Local
 locals = local P′.mir valueLocal ∷ local slice₀ valueLocal ∷ local slice₁ valueLocal ∷ local slice₂ valueLocal ∷ local slice₃ valueLocal ∷ local slice₄ valueLocal ∷ local slice₅ valueLocal ∷ local K′.mir valueLocal ∷ others
@@ -112,10 +113,10 @@ last-call = call #job-run·turn (copy (place 1 []) ∷ copy (place 2 []) ∷ cop
 
 module _ {M : Type 1} (𝓤 : URA M) (H : Heap 𝓤) (l₀ l₁ l₂ l₃ l₄ l₅ l₆ l₇ l₈ l₉ l₁₀ l₁₁ l₁₂ l₁₃ l₁₄ l₁₅ l₁₆ l₁₇ l₁₈ l₁₉ l₂₀ l₂₁ : ℕ) where
   abbrev pub E : Env 𝓤 H
-  E = (P′.mir, l₀) ∷ (slice₀, l₁) ∷ (slice₁, l₂) ∷ (slice₂, l₃) ∷ (slice₃, l₄) ∷ (slice₄, l₅) ∷ (slice₅, l₆) ∷ (K′.mir, l₇) ∷ (word, l₈) ∷ (B′.mir, l₉) ∷ (P′.mir, l₁₀) ∷ (record-lent, l₁₁) ∷ (record-slice, l₁₂) ∷ (tyBool, l₁₃) ∷ (lent-ref, l₁₄) ∷ (lent-slice, l₁₅) ∷ (lent-ref, l₁₆) ∷ (lent-slice, l₁₇) ∷ (record-lent, l₁₈) ∷ (record-slice, l₁₉) ∷ (record-lent, l₂₀) ∷ (record-slice, l₂₁) ∷ []
+  E = (P′.mir, l₀) ∷ (slice₀, l₁) ∷ (slice₁, l₂) ∷ (slice₂, l₃) ∷ (slice₃, l₄) ∷ (slice₄, l₅) ∷ (slice₅, l₆) ∷ (K′.mir, l₇) ∷ (word, l₈) ∷ (B′.mir, l₉) ∷ (P′.mir, l₁₀) ∷ (record-lent, l₁₁) ∷ (record-slice, l₁₂) ∷ (tyBool, l₁₃) ∷ (lent-ref, l₁₄) ∷ (lent-slice, l₁₅) ∷ (lent-ref, l₁₆) ∷ (lent-slice, l₁₇) ∷ (record-lent, l₁₈) ∷ (record-slice, l₁₉) ∷ (lent-ref, l₂₀) ∷ (lent-slice, l₂₁) ∷ []
 
 -- what is owned at the loop's head: the answer so far, and what the slices hold
-abbrev pub At : {M : Type 1} (𝓤 : URA M) (H : Heap 𝓤) (p : Passed) (l₀ l₁ l₂ l₃ l₄ l₅ l₆ l₇ l₈ l₉ l₁₀ l₁₁ l₁₂ l₁₃ l₁₄ l₁₅ l₁₆ l₁₇ l₁₈ l₁₉ l₂₀ l₂₁ : ℕ) → Val → List ℕ → List ℕ → List Record → List Record → List (Item 𝓤)
+abbrev pub At : {M : Type 1} (𝓤 : URA M) (H : Heap 𝓤) (p : Passed) (l₀ l₁ l₂ l₃ l₄ l₅ l₆ l₇ l₈ l₉ l₁₀ l₁₁ l₁₂ l₁₃ l₁₄ l₁₅ l₁₆ l₁₇ l₁₈ l₁₉ l₂₀ l₂₁ : ℕ) → Val → List ℕ → List ℕ → List Record → List ℕ → List (Item 𝓤)
 At 𝓤 H p l₀ l₁ l₂ l₃ l₄ l₅ l₆ l₇ l₈ l₉ l₁₀ l₁₁ l₁₂ l₁₃ l₁₄ l₁₅ l₁₆ l₁₇ l₁₈ l₁₉ l₂₀ l₂₁ cv ns es rs xs =
     ‵ (flft (p .κ₀) (p .q₀))
     ∷ ‵ (flft (p .κ₁) (p .q₁))
@@ -150,8 +151,8 @@ At 𝓤 H p l₀ l₁ l₂ l₃ l₄ l₅ l₆ l₇ l₈ l₉ l₁₀ l₁₁ l�
     ∷ ‵ (froom lent-slice l₁₇ 0)
     ∷ ‵ (froom record-lent l₁₈ 0)
     ∷ ‵ (froom record-slice l₁₉ 0)
-    ∷ ‵ (froom record-lent l₂₀ 0)
-    ∷ ‵ (froom record-slice l₂₁ 0)
+    ∷ ‵ (froom lent-ref l₂₀ 0)
+    ∷ ‵ (froom lent-slice l₂₁ 0)
     ∷ ‵ ftrue
     ∷ []
 
@@ -164,7 +165,7 @@ module _ {M : Type 1} (𝓤 : URA M) (H : Heap 𝓤) (A : Atoms 𝓤) (W : Given
     (known-going : Triple 𝓤 (𝓣 .C #job-run·goes-on) (GoingC 𝓤 H A mem run))
     (known-turn : Triple 𝓤 (𝓣 .C #job-run·turn) (TurnC 𝓤 H A mem run))
     (l₀ l₁ l₂ l₃ l₄ l₅ l₆ l₇ l₈ l₉ l₁₀ l₁₁ l₁₂ l₁₃ l₁₄ l₁₅ l₁₆ l₁₇ l₁₈ l₁₉ l₂₀ l₂₁ : ℕ) where
-  module _ (X : SProp 𝓤) (c : Picked) (cv : Val) (ci : Is P.the-row c (cv ∷ [])) (ns es : List ℕ) (rs xs : List Record) (same-nodes : length ns ≡ length (p .nodes-now)) (same-edges : length es ≡ length (p .edges-now)) (same-list : length rs ≡ length (p .list-now)) (same-scratch : length xs ≡ length (p .scratch-now)) (kept : leftIn c (heldIn (places rs) ns es (places xs)) ≡ left (ending p) (leaves p)) where
+  module _ (X : SProp 𝓤) (c : Picked) (cv : Val) (ci : Is P.the-row c (cv ∷ [])) (ns es : List ℕ) (rs : List Record) (xs : List ℕ) (same-nodes : length ns ≡ length (p .nodes-now)) (same-edges : length es ≡ length (p .edges-now)) (same-list : length rs ≡ length (p .list-now)) (same-scratch : length xs ≡ length (p .scratch-now)) (kept : leftIn c (heldIn (places rs) ns es xs) ≡ left (ending p) (leaves p)) where
     -- the run is over
     abbrev pub Returning : List (Item 𝓤)
     Returning =
@@ -201,8 +202,8 @@ module _ {M : Type 1} (𝓤 : URA M) (H : Heap 𝓤) (A : Atoms 𝓤) (W : Given
         ∷ ‵ (froom lent-slice l₁₇ 0)
         ∷ ‵ (froom record-lent l₁₈ 0)
         ∷ ‵ (froom record-slice l₁₉ 0)
-        ∷ ‵ (froom record-lent l₂₀ 0)
-        ∷ ‵ (froom record-slice l₂₁ 0)
+        ∷ ‵ (froom lent-ref l₂₀ 0)
+        ∷ ‵ (froom lent-slice l₂₁ 0)
         ∷ ‵ ftrue
         ∷ []
 
@@ -214,7 +215,7 @@ module _ {M : Type 1} (𝓤 : URA M) (H : Heap 𝓤) (A : Atoms 𝓤) (W : Given
         move ! (0 ∷ 13 ∷ 1 ∷ 2 ∷ 3 ∷ 4 ∷ 5 ∷ 6 ∷ 7 ∷ 8 ∷ 9 ∷ 10 ∷ 11 ∷ 12 ∷ []) $
         freed W (‵ (flft (p .κ₀) (p .q₀)) ∷ ‵ (flft (p .κ₁) (p .q₁)) ∷ ‵ (flft (p .κ₂) (p .q₂)) ∷ ‵ (flft (p .κ₃) (p .q₃)) ∷ ‵ (flft (p .κ₄) (p .q₄)) ∷ ‵ (flft (p .κ₅) (p .q₅)) ∷ ‵ (Weights p) ∷ ‵ (Profits p) ∷ ‵ (Nodes p ns) ∷ ‵ (Edges p es) ∷ ‵ (Listed p rs) ∷ ‵ (Scratch p xs) ∷ []) (E 𝓤 H l₀ l₁ l₂ l₃ l₄ l₅ l₆ l₇ l₈ l₉ l₁₀ l₁₁ l₁₂ l₁₃ l₁₄ l₁₅ l₁₆ l₁₇ l₁₈ l₁₉ l₂₀ l₂₁) (prop (Post 𝓤 H A mem run p cv)) (by ! (exits 𝓤 H A mem run p W c cv ns es rs xs ci kept same-nodes same-edges same-list same-scratch))
 
-  module _ (X : SProp 𝓤) (c : Picked) (cv : Val) (ci : Is P.the-row c (cv ∷ [])) (ns es : List ℕ) (rs xs : List Record) (same-nodes : length ns ≡ length (p .nodes-now)) (same-edges : length es ≡ length (p .edges-now)) (same-list : length rs ≡ length (p .list-now)) (same-scratch : length xs ≡ length (p .scratch-now)) (off : isGoing c ≡ false) (kept : leftIn c (heldIn (places rs) ns es (places xs)) ≡ left (ending p) (leaves p)) where
+  module _ (X : SProp 𝓤) (c : Picked) (cv : Val) (ci : Is P.the-row c (cv ∷ [])) (ns es : List ℕ) (rs : List Record) (xs : List ℕ) (same-nodes : length ns ≡ length (p .nodes-now)) (same-edges : length es ≡ length (p .edges-now)) (same-list : length rs ≡ length (p .list-now)) (same-scratch : length xs ≡ length (p .scratch-now)) (off : isGoing c ≡ false) (kept : leftIn c (heldIn (places rs) ns es xs) ≡ left (ending p) (leaves p)) where
     -- the loop's head, where the run is over
     abbrev pub Ending : List (Item 𝓤)
     Ending =
@@ -251,8 +252,8 @@ module _ {M : Type 1} (𝓤 : URA M) (H : Heap 𝓤) (A : Atoms 𝓤) (W : Given
         ∷ ‵ (froom lent-slice l₁₇ 0)
         ∷ ‵ (froom record-lent l₁₈ 0)
         ∷ ‵ (froom record-slice l₁₉ 0)
-        ∷ ‵ (froom record-lent l₂₀ 0)
-        ∷ ‵ (froom record-slice l₂₁ 0)
+        ∷ ‵ (froom lent-ref l₂₀ 0)
+        ∷ ‵ (froom lent-slice l₂₁ 0)
         ∷ ‵ ftrue
         ∷ []
 
@@ -269,7 +270,7 @@ module _ {M : Type 1} (𝓤 : URA M) (H : Heap 𝓤) (A : Atoms 𝓤) (W : Given
         leaves-loop ! (load ! (from ! (stop !)) (look ! 26 refl)) $ exec ! (𝓣 .C) (𝓣 .Λ) (E 𝓤 H l₀ l₁ l₂ l₃ l₄ l₅ l₆ l₇ l₈ l₉ l₁₀ l₁₁ l₁₂ l₁₃ l₁₄ l₁₅ l₁₆ l₁₇ l₁₈ l₁₉ l₂₀ l₂₁) pieces.t-7 (atRet (E 𝓤 H l₀ l₁ l₂ l₃ l₄ l₅ l₆ l₇ l₈ l₉ l₁₀ l₁₁ l₁₂ l₁₃ l₁₄ l₁₅ l₁₆ l₁₇ l₁₈ l₁₉ l₂₀ l₂₁) (Post 𝓤 H A mem run p)) $
         returned X c cv ci ns es rs xs same-nodes same-edges same-list same-scratch kept))))
 
-  module _ (X : SProp 𝓤) (c : Picked) (cv : Val) (ci : Is P.the-row c (cv ∷ [])) (ns es : List ℕ) (rs xs : List Record) (same-nodes : length ns ≡ length (p .nodes-now)) (same-edges : length es ≡ length (p .edges-now)) (same-list : length rs ≡ length (p .list-now)) (same-scratch : length xs ≡ length (p .scratch-now)) (ν₂ ν₃ ν₄ ν₅ : ℕ) (δ₂ δ₃ δ₄ δ₅ : GName) (r : Picked) (w : Val) (ri : Is P.the-row r (w ∷ [])) (ns′ es′ : List ℕ) (rs′ xs′ : List Record) (now-nodes : length ns′ ≡ length ns) (now-edges : length es′ ≡ length es) (now-list : length rs′ ≡ length rs) (now-scratch : length xs′ ≡ length xs) (next : ent 𝓤 (⋆ 𝓤 H A (At 𝓤 H p l₀ l₁ l₂ l₃ l₄ l₅ l₆ l₇ l₈ l₉ l₁₀ l₁₁ l₁₂ l₁₃ l₁₄ l₁₅ l₁₆ l₁₇ l₁₈ l₁₉ l₂₀ l₂₁ w ns′ es′ rs′ xs′)) X) where
+  module _ (X : SProp 𝓤) (c : Picked) (cv : Val) (ci : Is P.the-row c (cv ∷ [])) (ns es : List ℕ) (rs : List Record) (xs : List ℕ) (same-nodes : length ns ≡ length (p .nodes-now)) (same-edges : length es ≡ length (p .edges-now)) (same-list : length rs ≡ length (p .list-now)) (same-scratch : length xs ≡ length (p .scratch-now)) (ν₂ ν₃ ν₄ ν₅ : ℕ) (δ₂ δ₃ δ₄ δ₅ : GName) (r : Picked) (w : Val) (ri : Is P.the-row r (w ∷ [])) (ns′ es′ : List ℕ) (rs′ : List Record) (xs′ : List ℕ) (now-nodes : length ns′ ≡ length ns) (now-edges : length es′ ≡ length es) (now-list : length rs′ ≡ length rs) (now-scratch : length xs′ ≡ length xs) (next : ent 𝓤 (⋆ 𝓤 H A (At 𝓤 H p l₀ l₁ l₂ l₃ l₄ l₅ l₆ l₇ l₈ l₉ l₁₀ l₁₁ l₁₂ l₁₃ l₁₄ l₁₅ l₁₆ l₁₇ l₁₈ l₁₉ l₂₀ l₂₁ w ns′ es′ rs′ xs′)) X) where
     -- the turn is over: the slices come back, and its answer is stored
     abbrev pub Backs : List (Item 𝓤)
     Backs =
@@ -279,13 +280,13 @@ module _ {M : Type 1} (𝓤 : URA M) (H : Heap 𝓤) (A : Atoms 𝓤) (W : Given
         ∷ ‵ (flft (ν₂ ∷ []) fullShare)
         ∷ ‵ (flft (p .κ₁) (p .q₁))
         ∷ ‵ (flft (p .κ₀) (p .q₀))
-        ∷ ‵ (finally T.the-row δ₅ xs′)
+        ∷ ‵ (finally u64 δ₅ xs′)
         ∷ ‵ (finally T.the-row δ₄ rs′)
         ∷ ‵ (finally u64 δ₃ es′)
         ∷ ‵ (finally u64 δ₂ ns′)
         ∷ ‵ (Weights p)
         ∷ ‵ (Profits p)
-        ∷ ‵ (LentAgain T.the-row (p .κ₅) (ν₅ ∷ []) (p .q₅) (p .scratch-name) (p .scratch-block) (p .scratch-offset) δ₅ xs)
+        ∷ ‵ (LentAgain u64 (p .κ₅) (ν₅ ∷ []) (p .q₅) (p .scratch-name) (p .scratch-block) (p .scratch-offset) δ₅ xs)
         ∷ ‵ (LentAgain T.the-row (p .κ₄) (ν₄ ∷ []) (p .q₄) (p .list-name) (p .list-block) (p .list-offset) δ₄ rs)
         ∷ ‵ (LentAgain u64 (p .κ₃) (ν₃ ∷ []) (p .q₃) (p .edges-name) (p .edges-block) (p .edges-offset) δ₃ es)
         ∷ ‵ (LentAgain u64 (p .κ₂) (ν₂ ∷ []) (p .q₂) (p .nodes-name) (p .nodes-block) (p .nodes-offset) δ₂ ns)
@@ -310,8 +311,8 @@ module _ {M : Type 1} (𝓤 : URA M) (H : Heap 𝓤) (A : Atoms 𝓤) (W : Given
         ∷ ‵ (fat fullShare lent-slice l₁₇ 0 (edges-val p))
         ∷ ‵ (fat fullShare record-lent l₁₈ 0 (vptr (p .list-block) (p .list-offset)))
         ∷ ‵ (fat fullShare record-slice l₁₉ 0 (list-val p))
-        ∷ ‵ (fat fullShare record-lent l₂₀ 0 (vptr (p .scratch-block) (p .scratch-offset)))
-        ∷ ‵ (fat fullShare record-slice l₂₁ 0 (scratch-val p))
+        ∷ ‵ (fat fullShare lent-ref l₂₀ 0 (vptr (p .scratch-block) (p .scratch-offset)))
+        ∷ ‵ (fat fullShare lent-slice l₂₁ 0 (scratch-val p))
         ∷ ‵ ftrue
         ∷ []
 
@@ -325,18 +326,18 @@ module _ {M : Type 1} (𝓤 : URA M) (H : Heap 𝓤) (A : Atoms 𝓤) (W : Given
         move ! (5 ∷ []) $ lft-end ! tt $ move ! (0 ∷ 13 ∷ 9 ∷ []) $
         use3 W (later (‵ (Listed p rs′) ⊛ ‵ (flft (p .κ₄) (p .q₄)))) (gets-back T.the-row (p .κ₄) (ν₄ ∷ []) (p .q₄) (p .list-name) (p .list-block) (p .list-offset) 𝓤 H A W (named 4) (named 4) rs δ₄ rs′ (length (p .list-now)) same-list (p .list-room) now-list) $ await ! tt $ split ! $
         move ! (6 ∷ []) $ lft-end ! tt $ move ! (0 ∷ 12 ∷ 9 ∷ []) $
-        use3 W (later (‵ (Scratch p xs′) ⊛ ‵ (flft (p .κ₅) (p .q₅)))) (gets-back T.the-row (p .κ₅) (ν₅ ∷ []) (p .q₅) (p .scratch-name) (p .scratch-block) (p .scratch-offset) 𝓤 H A W (named 5) (named 5) xs δ₅ xs′ (length (p .scratch-now)) same-scratch (p .scratch-room) now-scratch) $ await ! tt $ split ! $
+        use3 W (later (‵ (Scratch p xs′) ⊛ ‵ (flft (p .κ₅) (p .q₅)))) (gets-back u64 (p .κ₅) (ν₅ ∷ []) (p .q₅) (p .scratch-name) (p .scratch-block) (p .scratch-offset) 𝓤 H A W (named 5) (named 5) xs δ₅ xs′ (length (p .scratch-now)) same-scratch (p .scratch-room) now-scratch) $ await ! tt $ split ! $
         land-last ! (from ! (stop !)) (store ! 23 refl (picked-typed 𝓤 H A W r w ri)) $ forget ! 26 refl $ forget ! 27 refl $ forget ! 28 refl $ forget ! 29 refl $
         forget ! 30 refl $ forget ! 31 refl $ forget ! 32 refl $ forget ! 33 refl $ forget ! 34 refl $
         move ! (9 ∷ 8 ∷ 7 ∷ 5 ∷ 3 ∷ 1 ∷ 10 ∷ 11 ∷ 6 ∷ 4 ∷ 2 ∷ 0 ∷ 12 ∷ 13 ∷ 14 ∷ 15 ∷ 16 ∷ 17 ∷ 18 ∷ 19 ∷ 20 ∷ 21 ∷ 22 ∷ 23 ∷ 24 ∷ 25 ∷ 26 ∷ 27 ∷ 28 ∷ 29 ∷ 30 ∷ 31 ∷ 32 ∷ 33 ∷ 34 ∷ 35 ∷ []) $
         by ! next
 
-  module _ (X : SProp 𝓤) (c : Picked) (cv : Val) (ci : Is P.the-row c (cv ∷ [])) (ns es : List ℕ) (rs xs : List Record) (same-nodes : length ns ≡ length (p .nodes-now)) (same-edges : length es ≡ length (p .edges-now)) (same-list : length rs ≡ length (p .list-now)) (same-scratch : length xs ≡ length (p .scratch-now)) (ν₂ ν₃ ν₄ ν₅ : ℕ) (δ₂ δ₃ δ₄ δ₅ : GName) (enough : c .search .opened ≤ length rs) (next : (r : Picked) (w : Val) → Is P.the-row r (w ∷ []) → (ns′ es′ : List ℕ) (rs′ xs′ : List Record) → Picks (Def.pick (askedFor (problem p) (kind p) (searchOf (c .search)) (places rs)) (searchOf (c .search)) (heldIn (places rs) ns es (places xs))) r ns′ es′ (places rs′) (places xs′) → length ns′ ≡ length ns → length es′ ≡ length es → length rs′ ≡ length rs → length xs′ ≡ length xs → ent 𝓤 (⋆ 𝓤 H A (At 𝓤 H p l₀ l₁ l₂ l₃ l₄ l₅ l₆ l₇ l₈ l₉ l₁₀ l₁₁ l₁₂ l₁₃ l₁₄ l₁₅ l₁₆ l₁₇ l₁₈ l₁₉ l₂₀ l₂₁ w ns′ es′ rs′ xs′)) X) where
+  module _ (X : SProp 𝓤) (c : Picked) (cv : Val) (ci : Is P.the-row c (cv ∷ [])) (ns es : List ℕ) (rs : List Record) (xs : List ℕ) (same-nodes : length ns ≡ length (p .nodes-now)) (same-edges : length es ≡ length (p .edges-now)) (same-list : length rs ≡ length (p .list-now)) (same-scratch : length xs ≡ length (p .scratch-now)) (ν₂ ν₃ ν₄ ν₅ : ℕ) (δ₂ δ₃ δ₄ δ₅ : GName) (enough : c .search .opened ≤ length rs) (next : (r : Picked) (w : Val) → Is P.the-row r (w ∷ []) → (ns′ es′ : List ℕ) (rs′ : List Record) (xs′ : List ℕ) → Picks (Def.pick (askedFor (problem p) (kind p) (searchOf (c .search)) (places rs)) (searchOf (c .search)) (heldIn (places rs) ns es xs)) r ns′ es′ (places rs′) xs′ → length ns′ ≡ length ns → length es′ ≡ length es → length rs′ ≡ length rs → length xs′ ≡ length xs → ent 𝓤 (⋆ 𝓤 H A (At 𝓤 H p l₀ l₁ l₂ l₃ l₄ l₅ l₆ l₇ l₈ l₉ l₁₀ l₁₁ l₁₂ l₁₃ l₁₄ l₁₅ l₁₆ l₁₇ l₁₈ l₁₉ l₂₀ l₂₁ w ns′ es′ rs′ xs′)) X) where
     -- the slices are lent to `turn`
     abbrev pub Turning : List (Item 𝓤)
     Turning =
         ‵ (ScratchLent p ν₅ δ₅ xs)
-        ∷ ‵ (LentAgain T.the-row (p .κ₅) (ν₅ ∷ []) (p .q₅) (p .scratch-name) (p .scratch-block) (p .scratch-offset) δ₅ xs)
+        ∷ ‵ (LentAgain u64 (p .κ₅) (ν₅ ∷ []) (p .q₅) (p .scratch-name) (p .scratch-block) (p .scratch-offset) δ₅ xs)
         ∷ ‵ (flft (ν₅ ∷ []) fullShare)
         ∷ ‵ (ListedLent p ν₄ δ₄ rs)
         ∷ ‵ (LentAgain T.the-row (p .κ₄) (ν₄ ∷ []) (p .q₄) (p .list-name) (p .list-block) (p .list-offset) δ₄ rs)
@@ -372,8 +373,8 @@ module _ {M : Type 1} (𝓤 : URA M) (H : Heap 𝓤) (A : Atoms 𝓤) (W : Given
         ∷ ‵ (fat fullShare lent-slice l₁₇ 0 (edges-val p))
         ∷ ‵ (fat fullShare record-lent l₁₈ 0 (vptr (p .list-block) (p .list-offset)))
         ∷ ‵ (fat fullShare record-slice l₁₉ 0 (list-val p))
-        ∷ ‵ (fat fullShare record-lent l₂₀ 0 (vptr (p .scratch-block) (p .scratch-offset)))
-        ∷ ‵ (fat fullShare record-slice l₂₁ 0 (scratch-val p))
+        ∷ ‵ (fat fullShare lent-ref l₂₀ 0 (vptr (p .scratch-block) (p .scratch-offset)))
+        ∷ ‵ (fat fullShare lent-slice l₂₁ 0 (scratch-val p))
         ∷ ‵ ftrue
         ∷ []
 
@@ -386,9 +387,9 @@ module _ {M : Type 1} (𝓤 : URA M) (H : Heap 𝓤) (A : Atoms 𝓤) (W : Given
         calls-at-last ! (fmOf 𝓤 H (W .laws) 𝓣) (TurnC 𝓤 H A mem run) known-turn (to-turn 𝓤 H A mem run p c cv ci ns es rs xs ν₂ ν₃ ν₄ ν₅ δ₂ δ₃ δ₄ δ₅) (and-then ! (load ! (from ! (stop !)) (look ! 9 refl)) (and-then ! (load ! (from ! (stop !)) (look ! 10 refl)) (and-then ! (load ! (from ! (stop !)) (look ! 23 refl)) (and-then ! (load ! (from ! (stop !)) (look ! 25 refl)) (and-then ! (load ! (from ! (stop !)) (look ! 27 refl)) (and-then ! (load ! (from ! (stop !)) (look ! 29 refl)) (and-then ! (load ! (from ! (stop !)) (look ! 15 refl)) (and-then ! (load ! (from ! (stop !)) (look ! 18 refl)) (no-more !))))))))) (λ w.
         use1 W (later (some (λ (r : Picked). ((‵ (flft (p .κ₀) (p .q₀)) ⊛ (‵ (flft (p .κ₁) (p .q₁)) ⊛ (‵ (flft (ν₂ ∷ []) fullShare) ⊛ (‵ (flft (ν₃ ∷ []) fullShare) ⊛ (‵ (flft (ν₄ ∷ []) fullShare) ⊛ (‵ (flft (ν₅ ∷ []) fullShare) ⊛ ‵ ftrue)))))) ⊛ ‵ (P.the-row .own r (w ∷ []))) ⊛ raw (ensured 𝓤 H A turn.ended (turn.clauses 𝓤 H A mem run) (p .κ₀, (p .κ₁, (ν₂ ∷ [], (ν₃ ∷ [], (ν₄ ∷ [], (ν₅ ∷ [], tt)))))) (turn-args 𝓤 H A mem run p c cv ci ns es rs xs ν₂ ν₃ ν₄ ν₅ δ₂ δ₃ δ₄ δ₅) tt r)))) (id⊢ 𝓤 _) $ await ! tt $ pick ! (λ r.
         split ! $ move ! (1 ∷ []) $
-        use1 W (some (λ (ls : Unit {0} × (Unit {0} × (List ℕ × (List ℕ × (List Record × (List Record × (Unit {0} × (Unit {0} × Unit {0})))))))). ‵ (lasts turn.ended (p .κ₀, (p .κ₁, (ν₂ ∷ [], (ν₃ ∷ [], (ν₄ ∷ [], (ν₅ ∷ [], tt)))))) (turn-args 𝓤 H A mem run p c cv ci ns es rs xs ν₂ ν₃ ν₄ ν₅ δ₂ δ₃ δ₄ δ₅) ls) ⊛ raw (fact 𝓤 (Picks (Def.pick (askedFor (problem p) (kind p) (searchOf (c .search)) (places rs)) (searchOf (c .search)) (heldIn (places rs) ns es (places xs))) r (ls .1 .1 .0) (ls .1 .1 .1 .0) (places (ls .1 .1 .1 .1 .0)) (places (ls .1 .1 .1 .1 .1 .0)))))) (id⊢ 𝓤 _) $ pick ! (λ ls.
+        use1 W (some (λ (ls : Unit {0} × (Unit {0} × (List ℕ × (List ℕ × (List Record × (List ℕ × (Unit {0} × (Unit {0} × Unit {0})))))))). ‵ (lasts turn.ended (p .κ₀, (p .κ₁, (ν₂ ∷ [], (ν₃ ∷ [], (ν₄ ∷ [], (ν₅ ∷ [], tt)))))) (turn-args 𝓤 H A mem run p c cv ci ns es rs xs ν₂ ν₃ ν₄ ν₅ δ₂ δ₃ δ₄ δ₅) ls) ⊛ raw (fact 𝓤 (Picks (Def.pick (askedFor (problem p) (kind p) (searchOf (c .search)) (places rs)) (searchOf (c .search)) (heldIn (places rs) ns es xs)) r (ls .1 .1 .0) (ls .1 .1 .1 .0) (places (ls .1 .1 .1 .1 .0)) (ls .1 .1 .1 .1 .1 .0))))) (id⊢ 𝓤 _) $ pick ! (λ ls.
         split ! $ move ! (1 ∷ []) $
-        heard ! (Picks (Def.pick (askedFor (problem p) (kind p) (searchOf (c .search)) (places rs)) (searchOf (c .search)) (heldIn (places rs) ns es (places xs))) r (ls .1 .1 .0) (ls .1 .1 .1 .0) (places (ls .1 .1 .1 .1 .0)) (places (ls .1 .1 .1 .1 .1 .0))) (λ picked.
+        heard ! (Picks (Def.pick (askedFor (problem p) (kind p) (searchOf (c .search)) (places rs)) (searchOf (c .search)) (heldIn (places rs) ns es xs)) r (ls .1 .1 .0) (ls .1 .1 .1 .0) (places (ls .1 .1 .1 .1 .0)) (ls .1 .1 .1 .1 .1 .0)) (λ picked.
         fsplit ! $ drop ! $ fsplit ! $ drop ! $ fsplit ! $ fsplit ! $ move ! (1 ∷ []) $ feqL ! (λ now-nodes.
         move ! (1 ∷ []) $ fsplit ! $ fsplit ! $ move ! (1 ∷ []) $ feqL ! (λ now-edges.
         move ! (1 ∷ []) $ fsplit ! $ fsplit ! $ move ! (1 ∷ []) $ feqL ! (λ now-list.
@@ -398,7 +399,7 @@ module _ {M : Type 1} (𝓤 : URA M) (H : Heap 𝓤) (A : Atoms 𝓤) (W : Given
         drop ! $
         backs X c cv ci ns es rs xs same-nodes same-edges same-list same-scratch ν₂ ν₃ ν₄ ν₅ δ₂ δ₃ δ₄ δ₅ r w ri (ls .1 .1 .0) (ls .1 .1 .1 .0) (ls .1 .1 .1 .1 .0) (ls .1 .1 .1 .1 .1 .0) now-nodes now-edges now-list now-scratch (next r w ri (ls .1 .1 .0) (ls .1 .1 .1 .0) (ls .1 .1 .1 .1 .0) (ls .1 .1 .1 .1 .1 .0) picked now-nodes now-edges now-list now-scratch))))))))))
 
-  module _ (X : SProp 𝓤) (c : Picked) (cv : Val) (ci : Is P.the-row c (cv ∷ [])) (ns es : List ℕ) (rs xs : List Record) (same-nodes : length ns ≡ length (p .nodes-now)) (same-edges : length es ≡ length (p .edges-now)) (same-list : length rs ≡ length (p .list-now)) (same-scratch : length xs ≡ length (p .scratch-now)) (enough : c .search .opened ≤ length rs) (next : (r : Picked) (w : Val) → Is P.the-row r (w ∷ []) → (ns′ es′ : List ℕ) (rs′ xs′ : List Record) → Picks (Def.pick (askedFor (problem p) (kind p) (searchOf (c .search)) (places rs)) (searchOf (c .search)) (heldIn (places rs) ns es (places xs))) r ns′ es′ (places rs′) (places xs′) → length ns′ ≡ length ns → length es′ ≡ length es → length rs′ ≡ length rs → length xs′ ≡ length xs → ent 𝓤 (⋆ 𝓤 H A (At 𝓤 H p l₀ l₁ l₂ l₃ l₄ l₅ l₆ l₇ l₈ l₉ l₁₀ l₁₁ l₁₂ l₁₃ l₁₄ l₁₅ l₁₆ l₁₇ l₁₈ l₁₉ l₂₀ l₂₁ w ns′ es′ rs′ xs′)) X) where
+  module _ (X : SProp 𝓤) (c : Picked) (cv : Val) (ci : Is P.the-row c (cv ∷ [])) (ns es : List ℕ) (rs : List Record) (xs : List ℕ) (same-nodes : length ns ≡ length (p .nodes-now)) (same-edges : length es ≡ length (p .edges-now)) (same-list : length rs ≡ length (p .list-now)) (same-scratch : length xs ≡ length (p .scratch-now)) (enough : c .search .opened ≤ length rs) (next : (r : Picked) (w : Val) → Is P.the-row r (w ∷ []) → (ns′ es′ : List ℕ) (rs′ : List Record) (xs′ : List ℕ) → Picks (Def.pick (askedFor (problem p) (kind p) (searchOf (c .search)) (places rs)) (searchOf (c .search)) (heldIn (places rs) ns es xs)) r ns′ es′ (places rs′) xs′ → length ns′ ≡ length ns → length es′ ≡ length es → length rs′ ≡ length rs → length xs′ ≡ length xs → ent 𝓤 (⋆ 𝓤 H A (At 𝓤 H p l₀ l₁ l₂ l₃ l₄ l₅ l₆ l₇ l₈ l₉ l₁₀ l₁₁ l₁₂ l₁₃ l₁₄ l₁₅ l₁₆ l₁₇ l₁₈ l₁₉ l₂₀ l₂₁ w ns′ es′ rs′ xs′)) X) where
     -- the slices are to be lent again
     abbrev pub Lending : List (Item 𝓤)
     Lending =
@@ -435,8 +436,8 @@ module _ {M : Type 1} (𝓤 : URA M) (H : Heap 𝓤) (A : Atoms 𝓤) (W : Given
         ∷ ‵ (fat fullShare lent-slice l₁₇ 0 (edges-val p))
         ∷ ‵ (fat fullShare record-lent l₁₈ 0 (vptr (p .list-block) (p .list-offset)))
         ∷ ‵ (fat fullShare record-slice l₁₉ 0 (list-val p))
-        ∷ ‵ (fat fullShare record-lent l₂₀ 0 (vptr (p .scratch-block) (p .scratch-offset)))
-        ∷ ‵ (fat fullShare record-slice l₂₁ 0 (scratch-val p))
+        ∷ ‵ (fat fullShare lent-ref l₂₀ 0 (vptr (p .scratch-block) (p .scratch-offset)))
+        ∷ ‵ (fat fullShare lent-slice l₂₁ 0 (scratch-val p))
         ∷ ‵ ftrue
         ∷ []
 
@@ -453,11 +454,11 @@ module _ {M : Type 1} (𝓤 : URA M) (H : Heap 𝓤) (A : Atoms 𝓤) (W : Given
         use2 W (later (some (λ (δ₄ : GName). ‵ (ListedLent p ν₄ δ₄ rs) ⊛ ‵ (LentAgain T.the-row (p .κ₄) (ν₄ ∷ []) (p .q₄) (p .list-name) (p .list-block) (p .list-offset) δ₄ rs)))) (lends-on T.the-row (p .κ₄) (ν₄ ∷ []) (p .q₄) (p .list-name) (p .list-block) (p .list-offset) 𝓤 H A W (named 4) (named 4) rs (length (p .list-now)) same-list) $ await ! tt $ pick ! (λ δ₄.
         split ! $ lft-new ! tt (λ ν₅.
         move ! (15 ∷ 12 ∷ []) $
-        use2 W (later (some (λ (δ₅ : GName). ‵ (ScratchLent p ν₅ δ₅ xs) ⊛ ‵ (LentAgain T.the-row (p .κ₅) (ν₅ ∷ []) (p .q₅) (p .scratch-name) (p .scratch-block) (p .scratch-offset) δ₅ xs)))) (lends-on T.the-row (p .κ₅) (ν₅ ∷ []) (p .q₅) (p .scratch-name) (p .scratch-block) (p .scratch-offset) 𝓤 H A W (named 5) (named 5) xs (length (p .scratch-now)) same-scratch) $ await ! tt $ pick ! (λ δ₅.
+        use2 W (later (some (λ (δ₅ : GName). ‵ (ScratchLent p ν₅ δ₅ xs) ⊛ ‵ (LentAgain u64 (p .κ₅) (ν₅ ∷ []) (p .q₅) (p .scratch-name) (p .scratch-block) (p .scratch-offset) δ₅ xs)))) (lends-on u64 (p .κ₅) (ν₅ ∷ []) (p .q₅) (p .scratch-name) (p .scratch-block) (p .scratch-offset) 𝓤 H A W (named 5) (named 5) xs (length (p .scratch-now)) same-scratch) $ await ! tt $ pick ! (λ δ₅.
         split ! $
         turns X c cv ci ns es rs xs same-nodes same-edges same-list same-scratch ν₂ ν₃ ν₄ ν₅ δ₂ δ₃ δ₄ δ₅ enough next))))))))
 
-  module _ (X : SProp 𝓤) (c : Picked) (cv : Val) (ci : Is P.the-row c (cv ∷ [])) (ns es : List ℕ) (rs xs : List Record) (same-nodes : length ns ≡ length (p .nodes-now)) (same-edges : length es ≡ length (p .edges-now)) (same-list : length rs ≡ length (p .list-now)) (same-scratch : length xs ≡ length (p .scratch-now)) (on : isGoing c ≡ true) (enough : c .search .opened ≤ length rs) (next : (r : Picked) (w : Val) → Is P.the-row r (w ∷ []) → (ns′ es′ : List ℕ) (rs′ xs′ : List Record) → Picks (Def.pick (askedFor (problem p) (kind p) (searchOf (c .search)) (places rs)) (searchOf (c .search)) (heldIn (places rs) ns es (places xs))) r ns′ es′ (places rs′) (places xs′) → length ns′ ≡ length ns → length es′ ≡ length es → length rs′ ≡ length rs → length xs′ ≡ length xs → ent 𝓤 (⋆ 𝓤 H A (At 𝓤 H p l₀ l₁ l₂ l₃ l₄ l₅ l₆ l₇ l₈ l₉ l₁₀ l₁₁ l₁₂ l₁₃ l₁₄ l₁₅ l₁₆ l₁₇ l₁₈ l₁₉ l₂₀ l₂₁ w ns′ es′ rs′ xs′)) X) where
+  module _ (X : SProp 𝓤) (c : Picked) (cv : Val) (ci : Is P.the-row c (cv ∷ [])) (ns es : List ℕ) (rs : List Record) (xs : List ℕ) (same-nodes : length ns ≡ length (p .nodes-now)) (same-edges : length es ≡ length (p .edges-now)) (same-list : length rs ≡ length (p .list-now)) (same-scratch : length xs ≡ length (p .scratch-now)) (on : isGoing c ≡ true) (enough : c .search .opened ≤ length rs) (next : (r : Picked) (w : Val) → Is P.the-row r (w ∷ []) → (ns′ es′ : List ℕ) (rs′ : List Record) (xs′ : List ℕ) → Picks (Def.pick (askedFor (problem p) (kind p) (searchOf (c .search)) (places rs)) (searchOf (c .search)) (heldIn (places rs) ns es xs)) r ns′ es′ (places rs′) xs′ → length ns′ ≡ length ns → length es′ ≡ length es → length rs′ ≡ length rs → length xs′ ≡ length xs → ent 𝓤 (⋆ 𝓤 H A (At 𝓤 H p l₀ l₁ l₂ l₃ l₄ l₅ l₆ l₇ l₈ l₉ l₁₀ l₁₁ l₁₂ l₁₃ l₁₄ l₁₅ l₁₆ l₁₇ l₁₈ l₁₉ l₂₀ l₂₁ w ns′ es′ rs′ xs′)) X) where
     -- the loop's head, where another turn follows
     abbrev pub Asking : List (Item 𝓤)
     Asking =
@@ -494,8 +495,8 @@ module _ {M : Type 1} (𝓤 : URA M) (H : Heap 𝓤) (A : Atoms 𝓤) (W : Given
         ∷ ‵ (froom lent-slice l₁₇ 0)
         ∷ ‵ (froom record-lent l₁₈ 0)
         ∷ ‵ (froom record-slice l₁₉ 0)
-        ∷ ‵ (froom record-lent l₂₀ 0)
-        ∷ ‵ (froom record-slice l₂₁ 0)
+        ∷ ‵ (froom lent-ref l₂₀ 0)
+        ∷ ‵ (froom lent-slice l₂₁ 0)
         ∷ ‵ ftrue
         ∷ []
 
@@ -525,7 +526,7 @@ module _ {M : Type 1} (𝓤 : URA M) (H : Heap 𝓤) (A : Atoms 𝓤) (W : Given
     pub ns : List ℕ
     pub es : List ℕ
     pub rs : List Record
-    pub xs : List Record
+    pub xs : List ℕ
 
   pub record Known (turns-left : ℕ) (s : State) : Type 0 where
     pub is : Is P.the-row (s .c) (s .cv ∷ [])
@@ -533,7 +534,7 @@ module _ {M : Type 1} (𝓤 : URA M) (H : Heap 𝓤) (A : Atoms 𝓤) (W : Given
     pub same-edges : length (s .es) ≡ length (p .edges-now)
     pub same-list : length (s .rs) ≡ length (p .list-now)
     pub same-scratch : length (s .xs) ≡ length (p .scratch-now)
-    pub goes : Going (problem p) (kind p) (lent p) (ending p) (leaves p) turns-left (s .c) (heldIn (places (s .rs)) (s .ns) (s .es) (places (s .xs)))
+    pub goes : Going (problem p) (kind p) (lent p) (ending p) (leaves p) turns-left (s .c) (heldIn (places (s .rs)) (s .ns) (s .es) (s .xs))
 
   abbrev Head : State → List (Item 𝓤)
   Head s = At 𝓤 H p l₀ l₁ l₂ l₃ l₄ l₅ l₆ l₇ l₈ l₉ l₁₀ l₁₁ l₁₂ l₁₃ l₁₄ l₁₅ l₁₆ l₁₇ l₁₈ l₁₉ l₂₀ l₂₁ (s .cv) (s .ns) (s .es) (s .rs) (s .xs)
@@ -544,14 +545,14 @@ module _ {M : Type 1} (𝓤 : URA M) (H : Heap 𝓤) (A : Atoms 𝓤) (W : Given
   turn-so : (t : ℕ) (s : State) → Known t s → (b : Bool) → isGoing (s .c) ≡ b → ent 𝓤 (⋆ 𝓤 H A (Head s)) (Wp 𝓤 H (𝓣 .C) (𝓣 .Λ) (E 𝓤 H l₀ l₁ l₂ l₃ l₄ l₅ l₆ l₇ l₈ l₉ l₁₀ l₁₁ l₁₂ l₁₃ l₁₄ l₁₅ l₁₆ l₁₇ l₁₈ l₁₉ l₂₀ l₂₁) pieces.turn-1 (afterTurn 𝓤 H (Below t) (Left 𝓤 H A mem run p 𝓣 l₀ l₁ l₂ l₃ l₄ l₅ l₆ l₇ l₈ l₉ l₁₀ l₁₁ l₁₂ l₁₃ l₁₄ l₁₅ l₁₆ l₁₇ l₁₈ l₁₉ l₂₀ l₂₁)))
   turn-so t s k false off =
       ends (Below t) (s .c) (s .cv) (k .is) (s .ns) (s .es) (s .rs) (s .xs) (k .same-nodes) (k .same-edges) (k .same-list) (k .same-scratch) off
-      (is-over (problem p) (kind p) (lent p) (ending p) (leaves p) t (s .c) (heldIn (places (s .rs)) (s .ns) (s .es) (places (s .xs))) (k .goes) off) .prf
+      (is-over (problem p) (kind p) (lent p) (ending p) (leaves p) t (s .c) (heldIn (places (s .rs)) (s .ns) (s .es) (s .xs)) (k .goes) off) .prf
   turn-so t s k true on =
       asks-on (Below t) (s .c) (s .cv) (k .is) (s .ns) (s .es) (s .rs) (s .xs) (k .same-nodes) (k .same-edges) (k .same-list) (k .same-scratch) on
-      (omega (arith, places-length (s .rs), asks (problem p) (kind p) (lent p) (ending p) (leaves p) t (s .c) (heldIn (places (s .rs)) (s .ns) (s .es) (places (s .xs))) (k .goes) on))
+      (omega (arith, places-length (s .rs), asks (problem p) (kind p) (lent p) (ending p) (leaves p) t (s .c) (heldIn (places (s .rs)) (s .ns) (s .es) (s .xs)) (k .goes) on))
       (λ r w ri ns′ es′ rs′ xs′ picked now-nodes now-edges now-list now-scratch.
-      let z = turned (problem p) (kind p) (lent p) (ending p) (leaves p) (heldIn (places (s .rs)) (s .ns) (s .es) (places (s .xs)))
+      let z = turned (problem p) (kind p) (lent p) (ending p) (leaves p) (heldIn (places (s .rs)) (s .ns) (s .es) (s .xs))
       (same-rooms (p .nodes-now) (s .ns) (p .edges-now) (s .es) (p .scratch-now) (s .xs) (k .same-nodes) (k .same-edges) (k .same-scratch))
-      r ns′ es′ (places rs′) (places xs′) t (s .c) (k .goes) on picked in
+      r ns′ es′ (places rs′) xs′ t (s .c) (k .goes) on picked in
       turned-by.again 𝓤 H A W Known Head t (z .rest) (record { c = r; cv = w; ns = ns′; es = es′; rs = rs′; xs = xs′ }) (z .less)
       (record {
         is = ri;

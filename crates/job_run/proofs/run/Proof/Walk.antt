@@ -111,8 +111,8 @@ module _ {M : Type 1} (𝓤 : URA M) (H : Heap 𝓤) (A : Atoms 𝓤) (W : Given
         ∷ ‵ (froom lent-slice l₁₇ 0)
         ∷ ‵ (froom record-lent l₁₈ 0)
         ∷ ‵ (froom record-slice l₁₉ 0)
-        ∷ ‵ (froom record-lent l₂₀ 0)
-        ∷ ‵ (froom record-slice l₂₁ 0)
+        ∷ ‵ (froom lent-ref l₂₀ 0)
+        ∷ ‵ (froom lent-slice l₂₁ 0)
         ∷ ‵ ftrue
         ∷ []
 
@@ -164,8 +164,8 @@ module _ {M : Type 1} (𝓤 : URA M) (H : Heap 𝓤) (A : Atoms 𝓤) (W : Given
         ∷ ‵ (froom lent-slice l₁₇ 0)
         ∷ ‵ (froom record-lent l₁₈ 0)
         ∷ ‵ (froom record-slice l₁₉ 0)
-        ∷ ‵ (froom record-lent l₂₀ 0)
-        ∷ ‵ (froom record-slice l₂₁ 0)
+        ∷ ‵ (froom lent-ref l₂₀ 0)
+        ∷ ‵ (froom lent-slice l₂₁ 0)
         ∷ ‵ ftrue
         ∷ []
 
@@ -229,8 +229,8 @@ module _ {M : Type 1} (𝓤 : URA M) (H : Heap 𝓤) (A : Atoms 𝓤) (W : Given
       ∷ ‵ (froom lent-slice l₁₇ 0)
       ∷ ‵ (froom record-lent l₁₈ 0)
       ∷ ‵ (froom record-slice l₁₉ 0)
-      ∷ ‵ (froom record-lent l₂₀ 0)
-      ∷ ‵ (froom record-slice l₂₁ 0)
+      ∷ ‵ (froom lent-ref l₂₀ 0)
+      ∷ ‵ (froom lent-slice l₂₁ 0)
       ∷ ‵ ftrue
       ∷ []
 

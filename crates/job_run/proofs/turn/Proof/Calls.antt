@@ -106,7 +106,7 @@ module _ {M : Type 1} (𝓤 : URA M) (H : Heap 𝓤) (A : Atoms 𝓤) (mem : Mem
         move ! (1 ∷ 0 ∷ []) $ fjoin ! $ done !
 
   module _ (s : Search) (sv : Val) (si : Is S.the-row s (sv ∷ [])) (k : ℕ) (kv : Val) (ki : Is usize k (kv ∷ [])) where
-    abbrev pub pick-args : RefT (List ℕ) × (RefT (List ℕ) × (RefT (List ℕ) × (RefT (List ℕ) × (RefT (List Record) × (RefT (List Record) × (Ask × (ℕ × (Search × Unit {0}))))))))
+    abbrev pub pick-args : RefT (List ℕ) × (RefT (List ℕ) × (RefT (List ℕ) × (RefT (List ℕ) × (RefT (List Record) × (RefT (List ℕ) × (Ask × (ℕ × (Search × Unit {0}))))))))
     pick-args = (p .weights, (p .profits, (nodes p (p .nodes-name) (p .nodes-now), (edges p (p .edges-name) (p .edges-now), (list p (p .list-name) (p .list-now), (scratch p (p .scratch-name) (p .scratch-now), (p .ask, (k, (s, tt)))))))))
 
     abbrev pub to-pick : PickC 𝓤 H A mem run .Ghost

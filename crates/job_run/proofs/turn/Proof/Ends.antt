@@ -32,7 +32,8 @@ use Rattle.search.specs.Held.{searchOf}
 use Rattle.search.specs.Asked.{problemOf}
 use Rattle.search.proofs.Ask as K
 use Rattle.search.proofs.Picked as P
-use Rattle.pick.specs.Picks.{heldIn, Picks}
+use Rattle.pick_steps.specs.Tried.{heldIn}
+use Rattle.pick.specs.Picks.{Picks}
 use Rattle.pick.proofs.Rows.{ask-makes, picked-makes}
 use Rattle.jobs.specs.Run.{askedFor}
 use Rattle.job_run.proofs.Passed.{Passed, nodes, edges, list, scratch, weights-val, profits-val, nodes-val, edges-val, list-val, scratch-val, Weights, Profits}
@@ -41,10 +42,10 @@ use Rattle.job_run.proofs.turn as f
 -- the four slices that `pick` changes are given to it for good
 abbrev pub stayed : Stays (f.ended .signature .params) (f.ended .kept)
 stayed =
-    (stay-none-slice (0 ∷ []) tt (plain (λ _. u64)) yes, (stay-none-slice (1 ∷ []) tt (plain (λ _. u64)) yes, (gave-slice (2 ∷ []) tt (plain (λ _. u64)), (gave-slice (3 ∷ []) tt (plain (λ _. u64)), (gave-slice (4 ∷ []) tt (plain (λ _. T.the-row)), (gave-slice (5 ∷ []) tt (plain (λ _. T.the-row)), (stay-none (λ _. K.the-row) yes, (stay-none (λ _. P.the-row) yes, tt))))))))
+    (stay-none-slice (0 ∷ []) tt (plain (λ _. u64)) yes, (stay-none-slice (1 ∷ []) tt (plain (λ _. u64)) yes, (gave-slice (2 ∷ []) tt (plain (λ _. u64)), (gave-slice (3 ∷ []) tt (plain (λ _. u64)), (gave-slice (4 ∷ []) tt (plain (λ _. T.the-row)), (gave-slice (5 ∷ []) tt (plain (λ _. u64)), (stay-none (λ _. K.the-row) yes, (stay-none (λ _. P.the-row) yes, tt))))))))
 
 module _ (p : Passed) (c : Picked) (cv : Val) where
-  abbrev pub args : RefT (List ℕ) × (RefT (List ℕ) × (RefT (List ℕ) × (RefT (List ℕ) × (RefT (List Record) × (RefT (List Record) × (Ask × (Picked × Unit {0})))))))
+  abbrev pub args : RefT (List ℕ) × (RefT (List ℕ) × (RefT (List ℕ) × (RefT (List ℕ) × (RefT (List Record) × (RefT (List ℕ) × (Ask × (Picked × Unit {0})))))))
   args = (p .weights, (p .profits, (nodes p (p .nodes-name) (p .nodes-now), (edges p (p .edges-name) (p .edges-now), (list p (p .list-name) (p .list-now), (scratch p (p .scratch-name) (p .scratch-now), (p .ask, (c, tt))))))))
 
   abbrev pub vals : List Val × (List Val × (List Val × (List Val × (List Val × (List Val × (List Val × (List Val × Unit {0})))))))
@@ -57,20 +58,20 @@ module _ (p : Passed) (c : Picked) (cv : Val) where
   parts = (p .q₀, (p .q₁, (p .q₂, (p .q₃, (p .q₄, (p .q₅, tt))))))
 
   -- the promise, at what is left
-  abbrev pub Promise : Picked → List ℕ → List ℕ → List Record → List Record → Type 0
+  abbrev pub Promise : Picked → List ℕ → List ℕ → List Record → List ℕ → Type 0
   Promise r ns es rs xs =
-      Picks (pick (askedFor (problemOf (p .weights .now) (p .profits .now) (p .ask .page) (p .ask .width)) (kindOf (p .ask .kind)) (searchOf (c .search)) (places (p .list-now))) (searchOf (c .search)) (heldIn (places (p .list-now)) (p .nodes-now) (p .edges-now) (places (p .scratch-now))))
-      r ns es (places rs) (places xs)
+      Picks (pick (askedFor (problemOf (p .weights .now) (p .profits .now) (p .ask .page) (p .ask .width)) (kindOf (p .ask .kind)) (searchOf (c .search)) (places (p .list-now))) (searchOf (c .search)) (heldIn (places (p .list-now)) (p .nodes-now) (p .edges-now) (p .scratch-now)))
+      r ns es (places rs) xs
 
 module _ {M : Type 1} (𝓤 : URA M) (H : Heap 𝓤) (A : Atoms 𝓤) (mem : Memory → SProp 𝓤) (run : Routine → Fun 𝓤) (p : Passed) (c : Picked) (cv : Val) (ci : Is P.the-row c (cv ∷ [])) where
   abbrev pub Post : Val → SProp 𝓤
   Post = walkOf 𝓤 H A f.ended stayed (f.clauses 𝓤 H A mem run) .post ((lfts p c cv, parts p c cv, tt, args p c cv, vals p c cv), tt)
 
-  pub exits : Given 𝓤 H A → (r : Picked) (w : Val) (ns es : List ℕ) (rs xs : List Record) → Is P.the-row r (w ∷ []) → Promise p c cv r ns es rs xs
+  pub exits : Given 𝓤 H A → (r : Picked) (w : Val) (ns es : List ℕ) (rs : List Record) (xs : List ℕ) → Is P.the-row r (w ∷ []) → Promise p c cv r ns es rs xs
       → length ns ≡ length (p .nodes-now) → length es ≡ length (p .edges-now) → length rs ≡ length (p .list-now) → length xs ≡ length (p .scratch-now)
-      → ent 𝓤 (⋆ 𝓤 H A (‵ (flft (p .κ₀) (p .q₀)) ∷ ‵ (flft (p .κ₁) (p .q₁)) ∷ ‵ (flft (p .κ₂) (p .q₂)) ∷ ‵ (flft (p .κ₃) (p .q₃)) ∷ ‵ (flft (p .κ₄) (p .q₄)) ∷ ‵ (flft (p .κ₅) (p .q₅)) ∷ ‵ (Weights p) ∷ ‵ (Profits p) ∷ ‵ (finally u64 (p .nodes-name) ns) ∷ ‵ (finally u64 (p .edges-name) es) ∷ ‵ (finally T.the-row (p .list-name) rs) ∷ ‵ (finally T.the-row (p .scratch-name) xs) ∷ [])) (Post w)
+      → ent 𝓤 (⋆ 𝓤 H A (‵ (flft (p .κ₀) (p .q₀)) ∷ ‵ (flft (p .κ₁) (p .q₁)) ∷ ‵ (flft (p .κ₂) (p .q₂)) ∷ ‵ (flft (p .κ₃) (p .q₃)) ∷ ‵ (flft (p .κ₄) (p .q₄)) ∷ ‵ (flft (p .κ₅) (p .q₅)) ∷ ‵ (Weights p) ∷ ‵ (Profits p) ∷ ‵ (finally u64 (p .nodes-name) ns) ∷ ‵ (finally u64 (p .edges-name) es) ∷ ‵ (finally T.the-row (p .list-name) rs) ∷ ‵ (finally u64 (p .scratch-name) xs) ∷ [])) (Post w)
   exits W r w ns es rs xs is kept same-nodes same-edges same-list same-scratch =
-      qed W (‵ (flft (p .κ₀) (p .q₀)) ∷ ‵ (flft (p .κ₁) (p .q₁)) ∷ ‵ (flft (p .κ₂) (p .q₂)) ∷ ‵ (flft (p .κ₃) (p .q₃)) ∷ ‵ (flft (p .κ₄) (p .q₄)) ∷ ‵ (flft (p .κ₅) (p .q₅)) ∷ ‵ (Weights p) ∷ ‵ (Profits p) ∷ ‵ (finally u64 (p .nodes-name) ns) ∷ ‵ (finally u64 (p .edges-name) es) ∷ ‵ (finally T.the-row (p .list-name) rs) ∷ ‵ (finally T.the-row (p .scratch-name) xs) ∷ []) ∵
+      qed W (‵ (flft (p .κ₀) (p .q₀)) ∷ ‵ (flft (p .κ₁) (p .q₁)) ∷ ‵ (flft (p .κ₂) (p .q₂)) ∷ ‵ (flft (p .κ₃) (p .q₃)) ∷ ‵ (flft (p .κ₄) (p .q₄)) ∷ ‵ (flft (p .κ₅) (p .q₅)) ∷ ‵ (Weights p) ∷ ‵ (Profits p) ∷ ‵ (finally u64 (p .nodes-name) ns) ∷ ‵ (finally u64 (p .edges-name) es) ∷ ‵ (finally T.the-row (p .list-name) rs) ∷ ‵ (finally u64 (p .scratch-name) xs) ∷ []) ∵
       suffices ! _ (ends-at 𝓤 H A f.ended stayed (f.clauses 𝓤 H A mem run) W ((lfts p c cv, parts p c cv, tt, args p c cv, vals p c cv), tt) w r (tt, (tt, (ns, (es, (rs, (xs, (tt, (tt, tt)))))))) (tt, (tt, (same-nodes, (same-edges, (same-list, (same-scratch, (tt, (tt, tt))))))))) $
       says ! kept $
       nothing ! $ move ! (6 ∷ 0 ∷ []) $ join ! $ move ! (5 ∷ 0 ∷ []) $ join ! $ move ! (4 ∷ 0 ∷ []) $ join ! $ move ! (3 ∷ 0 ∷ []) $ join ! $ move ! (2 ∷ 0 ∷ []) $ join ! $

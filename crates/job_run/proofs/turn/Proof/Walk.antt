@@ -42,7 +42,8 @@ use Rattle.search.proofs.Search as S
 use Rattle.search.proofs.Search.Laws as S′
 use Rattle.search.proofs.Picked as P
 use Rattle.search.proofs.Picked.Laws as P′
-use Rattle.pick.specs.Picks.{askedIn, heldIn, Picks}
+use Rattle.pick_steps.specs.Tried.{askedIn, heldIn}
+use Rattle.pick.specs.Picks.{Picks}
 use Rattle.records.proofs.Entered.{AllTyped, deaths, freed, entered as all-entered}
 use Rattle.pick.proofs.Rows.{ask-typed, search-typed, picked-typed}
 use Rattle.pick.proofs.pick as whole-pick
@@ -80,7 +81,7 @@ abbrev slice₄ : Ty
 slice₄ = sliceTy (tyRef (named 4) mut (pointee (T.the-row .written)))
 
 abbrev slice₅ : Ty
-slice₅ = sliceTy (tyRef (named 5) mut (pointee (T.the-row .written)))
+slice₅ = sliceTy (tyRef (named 5) mut (pointee (u64 .written)))
 
 abbrev lent : Ty
 lent = tyRef erased mut (pointee (u64 .written))
@@ -102,7 +103,7 @@ shared-slice = sliceTy shared
 
 -- the locals behind the parameters; and all of them as they are written here, which are the function's
 abbrev others : List Local
-others = local S′.mir valueLocal ∷ local word valueLocal ∷ local word valueLocal ∷ local shared valueLocal ∷ local shared-slice valueLocal ∷ local lent valueLocal ∷ local lent-slice valueLocal ∷ local lent valueLocal ∷ local lent-slice valueLocal ∷ local record-lent valueLocal ∷ local record-slice valueLocal ∷ local record-lent valueLocal ∷ local record-slice valueLocal ∷ []
+others = local S′.mir valueLocal ∷ local word valueLocal ∷ local word valueLocal ∷ local shared valueLocal ∷ local shared-slice valueLocal ∷ local lent valueLocal ∷ local lent-slice valueLocal ∷ local lent valueLocal ∷ local lent-slice valueLocal ∷ local record-lent valueLocal ∷ local record-slice valueLocal ∷ local lent valueLocal ∷ local lent-slice valueLocal ∷ []
 
 abbrev pub locals : List Local
 locals = local P′.mir valueLocal ∷ local slice₀ valueLocal ∷ local slice₁ valueLocal ∷ local slice₂ valueLocal ∷ local slice₃ valueLocal ∷ local slice₄ valueLocal ∷ local slice₅ valueLocal ∷ local K′.mir valueLocal ∷ local P′.mir valueLocal ∷ others
@@ -117,9 +118,9 @@ module _ {M : Type 1} (𝓤 : URA M) (H : Heap 𝓤) (A : Atoms 𝓤) (W : Given
     (known-pick : Triple 𝓤 (𝓣 .C #pick·pick) (PickC 𝓤 H A mem run))
     (l₀ l₁ l₂ l₃ l₄ l₅ l₆ l₇ l₈ l₉ l₁₀ l₁₁ l₁₂ l₁₃ l₁₄ l₁₅ l₁₆ l₁₇ l₁₈ l₁₉ l₂₀ l₂₁ : ℕ) where
   abbrev pub E : Env 𝓤 H
-  E = (P′.mir, l₀) ∷ (slice₀, l₁) ∷ (slice₁, l₂) ∷ (slice₂, l₃) ∷ (slice₃, l₄) ∷ (slice₄, l₅) ∷ (slice₅, l₆) ∷ (K′.mir, l₇) ∷ (P′.mir, l₈) ∷ (S′.mir, l₉) ∷ (word, l₁₀) ∷ (word, l₁₁) ∷ (shared, l₁₂) ∷ (shared-slice, l₁₃) ∷ (lent, l₁₄) ∷ (lent-slice, l₁₅) ∷ (lent, l₁₆) ∷ (lent-slice, l₁₇) ∷ (record-lent, l₁₈) ∷ (record-slice, l₁₉) ∷ (record-lent, l₂₀) ∷ (record-slice, l₂₁) ∷ []
+  E = (P′.mir, l₀) ∷ (slice₀, l₁) ∷ (slice₁, l₂) ∷ (slice₂, l₃) ∷ (slice₃, l₄) ∷ (slice₄, l₅) ∷ (slice₅, l₆) ∷ (K′.mir, l₇) ∷ (P′.mir, l₈) ∷ (S′.mir, l₉) ∷ (word, l₁₀) ∷ (word, l₁₁) ∷ (shared, l₁₂) ∷ (shared-slice, l₁₃) ∷ (lent, l₁₄) ∷ (lent-slice, l₁₅) ∷ (lent, l₁₆) ∷ (lent-slice, l₁₇) ∷ (record-lent, l₁₈) ∷ (record-slice, l₁₉) ∷ (lent, l₂₀) ∷ (lent-slice, l₂₁) ∷ []
 
-  module _ (r : Picked) (w : Val) (ri : Is P.the-row r (w ∷ [])) (ns es : List ℕ) (rs xs : List Record) (kept : Promise p c cv r ns es rs xs) (same-nodes : length ns ≡ length (p .nodes-now)) (same-edges : length es ≡ length (p .edges-now)) (same-list : length rs ≡ length (p .list-now)) (same-scratch : length xs ≡ length (p .scratch-now)) where
+  module _ (r : Picked) (w : Val) (ri : Is P.the-row r (w ∷ [])) (ns es : List ℕ) (rs : List Record) (xs : List ℕ) (kept : Promise p c cv r ns es rs xs) (same-nodes : length ns ≡ length (p .nodes-now)) (same-edges : length es ≡ length (p .edges-now)) (same-list : length rs ≡ length (p .list-now)) (same-scratch : length xs ≡ length (p .scratch-now)) where
     -- the answer is in its local
     abbrev pub Returning : List (Item 𝓤)
     Returning =
@@ -129,7 +130,7 @@ module _ {M : Type 1} (𝓤 : URA M) (H : Heap 𝓤) (A : Atoms 𝓤) (W : Given
         ∷ ‵ (flft (p .κ₂) (p .q₂))
         ∷ ‵ (flft (p .κ₁) (p .q₁))
         ∷ ‵ (flft (p .κ₀) (p .q₀))
-        ∷ ‵ (finally T.the-row (p .scratch-name) xs)
+        ∷ ‵ (finally u64 (p .scratch-name) xs)
         ∷ ‵ (finally T.the-row (p .list-name) rs)
         ∷ ‵ (finally u64 (p .edges-name) es)
         ∷ ‵ (finally u64 (p .nodes-name) ns)
@@ -156,8 +157,8 @@ module _ {M : Type 1} (𝓤 : URA M) (H : Heap 𝓤) (A : Atoms 𝓤) (W : Given
         ∷ ‵ (froom lent-slice l₁₇ 0)
         ∷ ‵ (froom record-lent l₁₈ 0)
         ∷ ‵ (froom record-slice l₁₉ 0)
-        ∷ ‵ (froom record-lent l₂₀ 0)
-        ∷ ‵ (froom record-slice l₂₁ 0)
+        ∷ ‵ (froom lent l₂₀ 0)
+        ∷ ‵ (froom lent-slice l₂₁ 0)
         ∷ ‵ ftrue
         ∷ []
 
@@ -166,7 +167,7 @@ module _ {M : Type 1} (𝓤 : URA M) (H : Heap 𝓤) (A : Atoms 𝓤) (W : Given
         returns ! (look ! 13 refl) $ forget ! 13 refl $ forget ! 14 refl $ forget ! 15 refl $ forget ! 16 refl $ forget ! 17 refl $ forget ! 18 refl $ forget ! 19 refl $
         forget ! 20 refl $ move ! (13 ∷ 14 ∷ 15 ∷ 16 ∷ 17 ∷ 18 ∷ 19 ∷ 20 ∷ 21 ∷ 22 ∷ 23 ∷ 24 ∷ 25 ∷ 26 ∷ 27 ∷ 28 ∷ 29 ∷ 30 ∷ 31 ∷ 32 ∷ 33 ∷ 34 ∷ 35 ∷ []) $ group ! 23 $
         move ! (0 ∷ 13 ∷ 6 ∷ 5 ∷ 4 ∷ 3 ∷ 2 ∷ 1 ∷ 11 ∷ 12 ∷ 10 ∷ 9 ∷ 8 ∷ 7 ∷ []) $
-        freed W (‵ (flft (p .κ₀) (p .q₀)) ∷ ‵ (flft (p .κ₁) (p .q₁)) ∷ ‵ (flft (p .κ₂) (p .q₂)) ∷ ‵ (flft (p .κ₃) (p .q₃)) ∷ ‵ (flft (p .κ₄) (p .q₄)) ∷ ‵ (flft (p .κ₅) (p .q₅)) ∷ ‵ (Weights p) ∷ ‵ (Profits p) ∷ ‵ (finally u64 (p .nodes-name) ns) ∷ ‵ (finally u64 (p .edges-name) es) ∷ ‵ (finally T.the-row (p .list-name) rs) ∷ ‵ (finally T.the-row (p .scratch-name) xs) ∷ []) E (prop (Post 𝓤 H A mem run p c cv ci w)) (by ! (exits 𝓤 H A mem run p c cv ci W r w ns es rs xs ri kept same-nodes same-edges same-list same-scratch))
+        freed W (‵ (flft (p .κ₀) (p .q₀)) ∷ ‵ (flft (p .κ₁) (p .q₁)) ∷ ‵ (flft (p .κ₂) (p .q₂)) ∷ ‵ (flft (p .κ₃) (p .q₃)) ∷ ‵ (flft (p .κ₄) (p .q₄)) ∷ ‵ (flft (p .κ₅) (p .q₅)) ∷ ‵ (Weights p) ∷ ‵ (Profits p) ∷ ‵ (finally u64 (p .nodes-name) ns) ∷ ‵ (finally u64 (p .edges-name) es) ∷ ‵ (finally T.the-row (p .list-name) rs) ∷ ‵ (finally u64 (p .scratch-name) xs) ∷ []) E (prop (Post 𝓤 H A mem run p c cv ci w)) (by ! (exits 𝓤 H A mem run p c cv ci W r w ns es rs xs ri kept same-nodes same-edges same-list same-scratch))
 
   module _ (s : Search) (sv : Val) (si : Is S.the-row s (sv ∷ [])) (searched : s ≡ c .search) (n : ℕ) (nv : Val) (ni : Is usize n (nv ∷ [])) (counted : n ≡ s .opened) (k : ℕ) (kv : Val) (ki : Is usize k (kv ∷ [])) (chosen : k ≡ Run.largest (take n (places (p .list-now)))) where
     -- all that `pick` changes is lent to it
@@ -205,8 +206,8 @@ module _ {M : Type 1} (𝓤 : URA M) (H : Heap 𝓤) (A : Atoms 𝓤) (W : Given
         ∷ ‵ (fat fullShare lent-slice l₁₇ 0 (edges-val p))
         ∷ ‵ (fat fullShare record-lent l₁₈ 0 (vptr (p .list-block) (p .list-offset)))
         ∷ ‵ (fat fullShare record-slice l₁₉ 0 (list-val p))
-        ∷ ‵ (fat fullShare record-lent l₂₀ 0 (vptr (p .scratch-block) (p .scratch-offset)))
-        ∷ ‵ (fat fullShare record-slice l₂₁ 0 (scratch-val p))
+        ∷ ‵ (fat fullShare lent l₂₀ 0 (vptr (p .scratch-block) (p .scratch-offset)))
+        ∷ ‵ (fat fullShare lent-slice l₂₁ 0 (scratch-val p))
         ∷ ‵ ftrue
         ∷ []
 
@@ -219,9 +220,9 @@ module _ {M : Type 1} (𝓤 : URA M) (H : Heap 𝓤) (A : Atoms 𝓤) (W : Given
         calls-at ! (fmOf 𝓤 H (W .laws) 𝓣) (PickC 𝓤 H A mem run) known-pick (to-pick 𝓤 H A mem run p c cv ci s sv si k kv ki) (and-then ! (load ! (from ! (stop !)) (look ! 5 refl)) (and-then ! (load ! (from ! (stop !)) (look ! 6 refl)) (and-then ! (load ! (from ! (stop !)) (look ! 19 refl)) (and-then ! (load ! (from ! (stop !)) (look ! 21 refl)) (and-then ! (load ! (from ! (stop !)) (look ! 23 refl)) (and-then ! (load ! (from ! (stop !)) (look ! 25 refl)) (and-then ! (load ! (from ! (stop !)) (look ! 11 refl)) (and-then ! (load ! (from ! (stop !)) (look ! 15 refl)) (and-then ! (load ! (from ! (stop !)) (look ! 13 refl)) (no-more !)))))))))) (λ w.
         use1 W (later (some (λ (r : Picked). ((‵ (flft (p .κ₀) (p .q₀)) ⊛ (‵ (flft (p .κ₁) (p .q₁)) ⊛ (‵ (flft (p .κ₂) (p .q₂)) ⊛ (‵ (flft (p .κ₃) (p .q₃)) ⊛ (‵ (flft (p .κ₄) (p .q₄)) ⊛ (‵ (flft (p .κ₅) (p .q₅)) ⊛ ‵ ftrue)))))) ⊛ ‵ (P.the-row .own r (w ∷ []))) ⊛ raw (ensured 𝓤 H A whole-pick.ended (whole-pick.clauses 𝓤 H A mem run) (p .κ₀, (p .κ₁, (p .κ₂, (p .κ₃, (p .κ₄, (p .κ₅, tt)))))) (pick-args 𝓤 H A mem run p c cv ci s sv si k kv ki) tt r)))) (id⊢ 𝓤 _) $ await ! tt $ pick ! (λ r.
         split ! $ move ! (1 ∷ []) $
-        use1 W (some (λ (ls : Unit {0} × (Unit {0} × (List ℕ × (List ℕ × (List Record × (List Record × (Unit {0} × (Unit {0} × (Unit {0} × Unit {0}))))))))). ‵ (lasts whole-pick.ended (p .κ₀, (p .κ₁, (p .κ₂, (p .κ₃, (p .κ₄, (p .κ₅, tt)))))) (pick-args 𝓤 H A mem run p c cv ci s sv si k kv ki) ls) ⊛ raw (fact 𝓤 (Picks (Def.pick (askedIn (p .weights .now) (p .profits .now) (p .ask) k) (searchOf s) (heldIn (places (p .list-now)) (p .nodes-now) (p .edges-now) (places (p .scratch-now)))) r (ls .1 .1 .0) (ls .1 .1 .1 .0) (places (ls .1 .1 .1 .1 .0)) (places (ls .1 .1 .1 .1 .1 .0)))))) (id⊢ 𝓤 _) $ pick ! (λ ls.
+        use1 W (some (λ (ls : Unit {0} × (Unit {0} × (List ℕ × (List ℕ × (List Record × (List ℕ × (Unit {0} × (Unit {0} × (Unit {0} × Unit {0}))))))))). ‵ (lasts whole-pick.ended (p .κ₀, (p .κ₁, (p .κ₂, (p .κ₃, (p .κ₄, (p .κ₅, tt)))))) (pick-args 𝓤 H A mem run p c cv ci s sv si k kv ki) ls) ⊛ raw (fact 𝓤 (Picks (Def.pick (askedIn (p .weights .now) (p .profits .now) (p .ask) k) (searchOf s) (heldIn (places (p .list-now)) (p .nodes-now) (p .edges-now) (p .scratch-now))) r (ls .1 .1 .0) (ls .1 .1 .1 .0) (places (ls .1 .1 .1 .1 .0)) (ls .1 .1 .1 .1 .1 .0))))) (id⊢ 𝓤 _) $ pick ! (λ ls.
         split ! $ move ! (1 ∷ []) $
-        heard ! (Picks (Def.pick (askedIn (p .weights .now) (p .profits .now) (p .ask) k) (searchOf s) (heldIn (places (p .list-now)) (p .nodes-now) (p .edges-now) (places (p .scratch-now)))) r (ls .1 .1 .0) (ls .1 .1 .1 .0) (places (ls .1 .1 .1 .1 .0)) (places (ls .1 .1 .1 .1 .1 .0))) (λ picked.
+        heard ! (Picks (Def.pick (askedIn (p .weights .now) (p .profits .now) (p .ask) k) (searchOf s) (heldIn (places (p .list-now)) (p .nodes-now) (p .edges-now) (p .scratch-now))) r (ls .1 .1 .0) (ls .1 .1 .1 .0) (places (ls .1 .1 .1 .1 .0)) (ls .1 .1 .1 .1 .1 .0)) (λ picked.
         fsplit ! $ drop ! $ fsplit ! $ drop ! $ fsplit ! $ fsplit ! $ move ! (1 ∷ []) $ feqL ! (λ same-nodes.
         move ! (1 ∷ []) $ fsplit ! $ fsplit ! $ move ! (1 ∷ []) $ feqL ! (λ same-edges.
         move ! (1 ∷ []) $ fsplit ! $ fsplit ! $ move ! (1 ∷ []) $ feqL ! (λ same-list.
@@ -230,7 +231,7 @@ module _ {M : Type 1} (𝓤 : URA M) (H : Heap 𝓤) (A : Atoms 𝓤) (W : Given
         land ! (from ! (stop !)) (init ! 8 refl (picked-typed 𝓤 H A W r w ri)) $ split ! $ move ! (1 ∷ []) $ split ! $ move ! (1 ∷ []) $ split ! $ move ! (1 ∷ []) $ split ! $
         move ! (1 ∷ []) $ split ! $ move ! (1 ∷ []) $ split ! $ move ! (1 ∷ []) $ drop ! $ forget ! 22 refl $ forget ! 24 refl $ forget ! 27 refl $ forget ! 28 refl $
         forget ! 29 refl $ forget ! 30 refl $ forget ! 31 refl $ forget ! 32 refl $ forget ! 33 refl $ forget ! 34 refl $
-        returned r w ri (ls .1 .1 .0) (ls .1 .1 .1 .0) (ls .1 .1 .1 .1 .0) (ls .1 .1 .1 .1 .1 .0) (picks-largest (p .weights .now) (p .profits .now) (p .ask) c s n k (places (p .list-now)) (p .nodes-now) (p .edges-now) (places (p .scratch-now)) searched counted chosen r (ls .1 .1 .0) (ls .1 .1 .1 .0) (places (ls .1 .1 .1 .1 .0)) (places (ls .1 .1 .1 .1 .1 .0)) picked) same-nodes same-edges same-list same-scratch)))))))))
+        returned r w ri (ls .1 .1 .0) (ls .1 .1 .1 .0) (ls .1 .1 .1 .1 .0) (ls .1 .1 .1 .1 .1 .0) (picks-largest (p .weights .now) (p .profits .now) (p .ask) c s n k (places (p .list-now)) (p .nodes-now) (p .edges-now) (p .scratch-now) searched counted chosen r (ls .1 .1 .0) (ls .1 .1 .1 .0) (places (ls .1 .1 .1 .1 .0)) (ls .1 .1 .1 .1 .1 .0) picked) same-nodes same-edges same-list same-scratch)))))))))
 
   module _ (s : Search) (sv : Val) (si : Is S.the-row s (sv ∷ [])) (searched : s ≡ c .search) (n : ℕ) (nv : Val) (ni : Is usize n (nv ∷ [])) (counted : n ≡ s .opened) (k : ℕ) (kv : Val) (ki : Is usize k (kv ∷ [])) (chosen : k ≡ Run.largest (take n (places (p .list-now)))) where
     -- the place is known
@@ -269,8 +270,8 @@ module _ {M : Type 1} (𝓤 : URA M) (H : Heap 𝓤) (A : Atoms 𝓤) (W : Given
         ∷ ‵ (froom lent-slice l₁₇ 0)
         ∷ ‵ (froom record-lent l₁₈ 0)
         ∷ ‵ (froom record-slice l₁₉ 0)
-        ∷ ‵ (froom record-lent l₂₀ 0)
-        ∷ ‵ (froom record-slice l₂₁ 0)
+        ∷ ‵ (froom lent l₂₀ 0)
+        ∷ ‵ (froom lent-slice l₂₁ 0)
         ∷ ‵ ftrue
         ∷ []
 
@@ -326,8 +327,8 @@ module _ {M : Type 1} (𝓤 : URA M) (H : Heap 𝓤) (A : Atoms 𝓤) (W : Given
         ∷ ‵ (froom lent-slice l₁₇ 0)
         ∷ ‵ (froom record-lent l₁₈ 0)
         ∷ ‵ (froom record-slice l₁₉ 0)
-        ∷ ‵ (froom record-lent l₂₀ 0)
-        ∷ ‵ (froom record-slice l₂₁ 0)
+        ∷ ‵ (froom lent l₂₀ 0)
+        ∷ ‵ (froom lent-slice l₂₁ 0)
         ∷ ‵ ftrue
         ∷ []
 
@@ -387,8 +388,8 @@ module _ {M : Type 1} (𝓤 : URA M) (H : Heap 𝓤) (A : Atoms 𝓤) (W : Given
         ∷ ‵ (froom lent-slice l₁₇ 0)
         ∷ ‵ (froom record-lent l₁₈ 0)
         ∷ ‵ (froom record-slice l₁₉ 0)
-        ∷ ‵ (froom record-lent l₂₀ 0)
-        ∷ ‵ (froom record-slice l₂₁ 0)
+        ∷ ‵ (froom lent l₂₀ 0)
+        ∷ ‵ (froom lent-slice l₂₁ 0)
         ∷ ‵ ftrue
         ∷ []
 
@@ -438,8 +439,8 @@ module _ {M : Type 1} (𝓤 : URA M) (H : Heap 𝓤) (A : Atoms 𝓤) (W : Given
       ∷ ‵ (froom lent-slice l₁₇ 0)
       ∷ ‵ (froom record-lent l₁₈ 0)
       ∷ ‵ (froom record-slice l₁₉ 0)
-      ∷ ‵ (froom record-lent l₂₀ 0)
-      ∷ ‵ (froom record-slice l₂₁ 0)
+      ∷ ‵ (froom lent l₂₀ 0)
+      ∷ ‵ (froom lent-slice l₂₁ 0)
       ∷ ‵ ftrue
       ∷ []
 

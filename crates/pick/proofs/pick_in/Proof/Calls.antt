@@ -34,8 +34,8 @@ use Rattle.search.specs.Held.{searchOf}
 use Rattle.search.proofs.Search as S
 use Rattle.search.proofs.Picked as P
 use Rattle.search.specs.declared.Ask.{Ask}
-use Rattle.pick.specs.Picks.{askedIn, heldIn}
 use Rattle.search.proofs.Ask as K
+use Rattle.pick_steps.specs.Tried.{askedIn, heldIn}
 use Rattle.pick.proofs.Rows.{ask-makes, search-makes, picked-makes}
 use Rattle.pick.proofs.pick as whole
 use Rattle.search.proofs.search_of as search
@@ -62,7 +62,7 @@ pub record Passed : Type 0 where
   pub nodes : RefT (List ℕ)
   pub edges : RefT (List ℕ)
   pub list : RefT (List Record)
-  pub scratch : RefT (List Record)
+  pub scratch : RefT (List ℕ)
   pub ask : Ask
   pub place : ℕ
   pub block : ℕ
@@ -75,7 +75,7 @@ pub record Passed : Type 0 where
   pub nodes-room : Room u64 (length (nodes .now))
   pub edges-room : Room u64 (length (edges .now))
   pub list-room : Room T.the-row (length (list .now))
-  pub scratch-room : Room T.the-row (length (scratch .now))
+  pub scratch-room : Room u64 (length (scratch .now))
   pub ask-is : Is K.the-row ask (ask-val ∷ [])
   pub place-fits : place < 2 ^ 64
 
@@ -125,15 +125,15 @@ module _ (p : Passed) where
   Listed = MutSlice (named 4) (p .κ₄) T.the-row .own (p .list) (list-val ∷ [])
 
   abbrev pub Scratch : Fml
-  Scratch = MutSlice (named 5) (p .κ₅) T.the-row .own (p .scratch) (scratch-val ∷ [])
+  Scratch = MutSlice (named 5) (p .κ₅) u64 .own (p .scratch) (scratch-val ∷ [])
 
   -- the definition's pick
   abbrev pub after : Def.After
-  after = Def.pick (askedIn (p .weights .now) (p .profits .now) (p .ask) (p .place)) (searchOf (p .old)) (heldIn (places (p .list .now)) (p .nodes .now) (p .edges .now) (places (p .scratch .now)))
+  after = Def.pick (askedIn (p .weights .now) (p .profits .now) (p .ask) (p .place)) (searchOf (p .old)) (heldIn (places (p .list .now)) (p .nodes .now) (p .edges .now) (p .scratch .now))
 
 module _ {M : Type 1} (𝓤 : URA M) (H : Heap 𝓤) (A : Atoms 𝓤) (mem : Memory → SProp 𝓤) (run : Routine → Fun 𝓤) (p : Passed) where
   module _ (hv : Val) (hi : Is S.the-row (p .old) (hv ∷ [])) where
-    abbrev pub pick-args : RefT (List ℕ) × (RefT (List ℕ) × (RefT (List ℕ) × (RefT (List ℕ) × (RefT (List Record) × (RefT (List Record) × (Ask × (ℕ × (Search × Unit {0}))))))))
+    abbrev pub pick-args : RefT (List ℕ) × (RefT (List ℕ) × (RefT (List ℕ) × (RefT (List ℕ) × (RefT (List Record) × (RefT (List ℕ) × (Ask × (ℕ × (Search × Unit {0}))))))))
     pick-args = (p .weights, (p .profits, (p .nodes, (p .edges, (p .list, (p .scratch, (p .ask, (p .place, (p .old, tt)))))))))
 
     abbrev pub to-pick : PickC 𝓤 H A mem run .Ghost

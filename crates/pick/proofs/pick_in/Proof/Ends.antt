@@ -42,13 +42,13 @@ use Rattle.pick.proofs.pick_in.Proof.Calls.{Passed, weights-val, profit
 -- the four slices that `pick` changes are given to it for good; the search is still had at the end
 abbrev pub stayed : Stays (f.ended .signature .params) (f.ended .kept)
 stayed =
-    (stay-none-slice (0 ∷ []) tt (plain (λ _. u64)) yes, (stay-none-slice (1 ∷ []) tt (plain (λ _. u64)) yes, (gave-slice (2 ∷ []) tt (plain (λ _. u64)), (gave-slice (3 ∷ []) tt (plain (λ _. u64)), (gave-slice (4 ∷ []) tt (plain (λ _. T.the-row)), (gave-slice (5 ∷ []) tt (plain (λ _. T.the-row)), (stay-none (λ _. K.the-row) yes, (stay-none (λ _. usize) yes, (stay-ref (6 ∷ []) tt (plain (λ _. S.the-row)), tt)))))))))
+    (stay-none-slice (0 ∷ []) tt (plain (λ _. u64)) yes, (stay-none-slice (1 ∷ []) tt (plain (λ _. u64)) yes, (gave-slice (2 ∷ []) tt (plain (λ _. u64)), (gave-slice (3 ∷ []) tt (plain (λ _. u64)), (gave-slice (4 ∷ []) tt (plain (λ _. T.the-row)), (gave-slice (5 ∷ []) tt (plain (λ _. u64)), (stay-none (λ _. K.the-row) yes, (stay-none (λ _. usize) yes, (stay-ref (6 ∷ []) tt (plain (λ _. S.the-row)), tt)))))))))
 
 module _ (p : Passed) where
   abbrev pub lent : Search → RefT Search
   lent s = record { ptr = (p .block, p .offset); name = p .name; now = s }
 
-  abbrev pub args : RefT (List ℕ) × (RefT (List ℕ) × (RefT (List ℕ) × (RefT (List ℕ) × (RefT (List Record) × (RefT (List Record) × (Ask × (ℕ × (RefT Search × Unit {0}))))))))
+  abbrev pub args : RefT (List ℕ) × (RefT (List ℕ) × (RefT (List ℕ) × (RefT (List ℕ) × (RefT (List Record) × (RefT (List ℕ) × (Ask × (ℕ × (RefT Search × Unit {0}))))))))
   args = (p .weights, (p .profits, (p .nodes, (p .edges, (p .list, (p .scratch, (p .ask, (p .place, (lent (p .old), tt)))))))))
 
   abbrev pub vals : List Val × (List Val × (List Val × (List Val × (List Val × (List Val × (List Val × (List Val × (List Val × Unit {0}))))))))
@@ -64,11 +64,11 @@ module _ {M : Type 1} (𝓤 : URA M) (H : Heap 𝓤) (A : Atoms 𝓤) (mem : Mem
   abbrev pub Post : Val → SProp 𝓤
   Post = walkOf 𝓤 H A f.ended stayed (f.clauses 𝓤 H A mem run) .post ((lfts p, parts p, tt, args p, vals p), tt)
 
-  pub exits : Given 𝓤 H A → (v : Verdict) (w : Val) (s : Search) (ns es : List ℕ) (rs xs : List Record) → Is Vd.the-row v (w ∷ []) → PicksIn (after p) v s ns es (places rs) (places xs)
+  pub exits : Given 𝓤 H A → (v : Verdict) (w : Val) (s : Search) (ns es : List ℕ) (rs : List Record) (xs : List ℕ) → Is Vd.the-row v (w ∷ []) → PicksIn (after p) v s ns es (places rs) xs
       → length ns ≡ length (p .nodes .now) → length es ≡ length (p .edges .now) → length rs ≡ length (p .list .now) → length xs ≡ length (p .scratch .now)
-      → ent 𝓤 (⋆ 𝓤 H A (‵ (flft (p .κ₀) (p .q₀)) ∷ ‵ (flft (p .κ₁) (p .q₁)) ∷ ‵ (flft (p .κ₂) (p .q₂)) ∷ ‵ (flft (p .κ₃) (p .q₃)) ∷ ‵ (flft (p .κ₄) (p .q₄)) ∷ ‵ (flft (p .κ₅) (p .q₅)) ∷ ‵ (flft (p .κ₆) (p .q₆)) ∷ ‵ (Weights p) ∷ ‵ (Profits p) ∷ ‵ (finally u64 (p .nodes .name) ns) ∷ ‵ (finally u64 (p .edges .name) es) ∷ ‵ (finally T.the-row (p .list .name) rs) ∷ ‵ (finally T.the-row (p .scratch .name) xs) ∷ ‵ (fobs (p .name) (S.the-row .coded .code s)) ∷ ‵ (fbor (p .κ₆) (Body (memory S.the-row) (p .block) (p .offset) (p .name))) ∷ [])) (Post w)
+      → ent 𝓤 (⋆ 𝓤 H A (‵ (flft (p .κ₀) (p .q₀)) ∷ ‵ (flft (p .κ₁) (p .q₁)) ∷ ‵ (flft (p .κ₂) (p .q₂)) ∷ ‵ (flft (p .κ₃) (p .q₃)) ∷ ‵ (flft (p .κ₄) (p .q₄)) ∷ ‵ (flft (p .κ₅) (p .q₅)) ∷ ‵ (flft (p .κ₆) (p .q₆)) ∷ ‵ (Weights p) ∷ ‵ (Profits p) ∷ ‵ (finally u64 (p .nodes .name) ns) ∷ ‵ (finally u64 (p .edges .name) es) ∷ ‵ (finally T.the-row (p .list .name) rs) ∷ ‵ (finally u64 (p .scratch .name) xs) ∷ ‵ (fobs (p .name) (S.the-row .coded .code s)) ∷ ‵ (fbor (p .κ₆) (Body (memory S.the-row) (p .block) (p .offset) (p .name))) ∷ [])) (Post w)
   exits W v w s ns es rs xs is kept same-nodes same-edges same-list same-scratch =
-      qed W (‵ (flft (p .κ₀) (p .q₀)) ∷ ‵ (flft (p .κ₁) (p .q₁)) ∷ ‵ (flft (p .κ₂) (p .q₂)) ∷ ‵ (flft (p .κ₃) (p .q₃)) ∷ ‵ (flft (p .κ₄) (p .q₄)) ∷ ‵ (flft (p .κ₅) (p .q₅)) ∷ ‵ (flft (p .κ₆) (p .q₆)) ∷ ‵ (Weights p) ∷ ‵ (Profits p) ∷ ‵ (finally u64 (p .nodes .name) ns) ∷ ‵ (finally u64 (p .edges .name) es) ∷ ‵ (finally T.the-row (p .list .name) rs) ∷ ‵ (finally T.the-row (p .scratch .name) xs) ∷ ‵ (fobs (p .name) (S.the-row .coded .code s)) ∷ ‵ (fbor (p .κ₆) (Body (memory S.the-row) (p .block) (p .offset) (p .name))) ∷ []) ∵
+      qed W (‵ (flft (p .κ₀) (p .q₀)) ∷ ‵ (flft (p .κ₁) (p .q₁)) ∷ ‵ (flft (p .κ₂) (p .q₂)) ∷ ‵ (flft (p .κ₃) (p .q₃)) ∷ ‵ (flft (p .κ₄) (p .q₄)) ∷ ‵ (flft (p .κ₅) (p .q₅)) ∷ ‵ (flft (p .κ₆) (p .q₆)) ∷ ‵ (Weights p) ∷ ‵ (Profits p) ∷ ‵ (finally u64 (p .nodes .name) ns) ∷ ‵ (finally u64 (p .edges .name) es) ∷ ‵ (finally T.the-row (p .list .name) rs) ∷ ‵ (finally u64 (p .scratch .name) xs) ∷ ‵ (fobs (p .name) (S.the-row .coded .code s)) ∷ ‵ (fbor (p .κ₆) (Body (memory S.the-row) (p .block) (p .offset) (p .name))) ∷ []) ∵
       suffices ! _ (ends-at 𝓤 H A f.ended stayed (f.clauses 𝓤 H A mem run) W ((lfts p, parts p, tt, args p, vals p), tt) w v (tt, (tt, (ns, (es, (rs, (xs, (tt, (tt, (s, tt))))))))) (tt, (tt, (same-nodes, (same-edges, (same-list, (same-scratch, (tt, (tt, (tt, tt)))))))))) $
       says ! kept $
       nothing ! $ move ! (7 ∷ 0 ∷ []) $ join ! $ move ! (6 ∷ 0 ∷ []) $ join ! $ move ! (5 ∷ 0 ∷ []) $ join ! $ move ! (4 ∷ 0 ∷ []) $ join ! $ move ! (3 ∷ 0 ∷ []) $ join ! $

@@ -75,7 +75,7 @@ abbrev slice₄ : Ty
 slice₄ = sliceTy (tyRef (named 4) mut (pointee (T.the-row .written)))
 
 abbrev slice₅ : Ty
-slice₅ = sliceTy (tyRef (named 5) mut (pointee (T.the-row .written)))
+slice₅ = sliceTy (tyRef (named 5) mut (pointee (u64 .written)))
 
 abbrev search-ref : Ty
 search-ref = tyRef (named 6) mut (pointee (S.the-row .written))
@@ -94,7 +94,7 @@ record-slice = sliceTy record-ref
 
 -- the locals behind the parameters; and all of them as they are written here, which are the function's
 abbrev others : List Local
-others = local S′.mir valueLocal ∷ local P′.mir valueLocal ∷ local S′.mir valueLocal ∷ local lent-ref valueLocal ∷ local lent-slice valueLocal ∷ local lent-ref valueLocal ∷ local lent-slice valueLocal ∷ local record-ref valueLocal ∷ local record-slice valueLocal ∷ local record-ref valueLocal ∷ local record-slice valueLocal ∷ []
+others = local S′.mir valueLocal ∷ local P′.mir valueLocal ∷ local S′.mir valueLocal ∷ local lent-ref valueLocal ∷ local lent-slice valueLocal ∷ local lent-ref valueLocal ∷ local lent-slice valueLocal ∷ local record-ref valueLocal ∷ local record-slice valueLocal ∷ local lent-ref valueLocal ∷ local lent-slice valueLocal ∷ []
 
 abbrev pub locals : List Local
 locals = local Vd′.mir valueLocal ∷ local slice₀ valueLocal ∷ local slice₁ valueLocal ∷ local slice₂ valueLocal ∷ local slice₃ valueLocal ∷ local slice₄ valueLocal ∷ local slice₅ valueLocal ∷ local K′.mir valueLocal ∷ local word valueLocal ∷ local search-ref valueLocal ∷ others
@@ -108,9 +108,9 @@ module _ {M : Type 1} (𝓤 : URA M) (H : Heap 𝓤) (A : Atoms 𝓤) (W : Given
     (known-verdict : Triple 𝓤 (𝓣 .C #search·verdict-in) (VerdictC 𝓤 H A mem run))
     (l₀ l₁ l₂ l₃ l₄ l₅ l₆ l₇ l₈ l₉ l₁₀ l₁₁ l₁₂ l₁₃ l₁₄ l₁₅ l₁₆ l₁₇ l₁₈ l₁₉ l₂₀ : ℕ) where
   abbrev pub E : Env 𝓤 H
-  E = (Vd′.mir, l₀) ∷ (slice₀, l₁) ∷ (slice₁, l₂) ∷ (slice₂, l₃) ∷ (slice₃, l₄) ∷ (slice₄, l₅) ∷ (slice₅, l₆) ∷ (K′.mir, l₇) ∷ (word, l₈) ∷ (search-ref, l₉) ∷ (S′.mir, l₁₀) ∷ (P′.mir, l₁₁) ∷ (S′.mir, l₁₂) ∷ (lent-ref, l₁₃) ∷ (lent-slice, l₁₄) ∷ (lent-ref, l₁₅) ∷ (lent-slice, l₁₆) ∷ (record-ref, l₁₇) ∷ (record-slice, l₁₈) ∷ (record-ref, l₁₉) ∷ (record-slice, l₂₀) ∷ []
+  E = (Vd′.mir, l₀) ∷ (slice₀, l₁) ∷ (slice₁, l₂) ∷ (slice₂, l₃) ∷ (slice₃, l₄) ∷ (slice₄, l₅) ∷ (slice₅, l₆) ∷ (K′.mir, l₇) ∷ (word, l₈) ∷ (search-ref, l₉) ∷ (S′.mir, l₁₀) ∷ (P′.mir, l₁₁) ∷ (S′.mir, l₁₂) ∷ (lent-ref, l₁₃) ∷ (lent-slice, l₁₄) ∷ (lent-ref, l₁₅) ∷ (lent-slice, l₁₆) ∷ (record-ref, l₁₇) ∷ (record-slice, l₁₈) ∷ (lent-ref, l₁₉) ∷ (lent-slice, l₂₀) ∷ []
 
-  module _ (v : Verdict) (w : Val) (vi : Is Vd.the-row v (w ∷ [])) (s : Search) (ns es : List ℕ) (rs xs : List Record) (kept : PicksIn (after p) v s ns es (places rs) (places xs)) (same-nodes : length ns ≡ length (p .nodes .now)) (same-edges : length es ≡ length (p .edges .now)) (same-list : length rs ≡ length (p .list .now)) (same-scratch : length xs ≡ length (p .scratch .now)) (cv : Val) where
+  module _ (v : Verdict) (w : Val) (vi : Is Vd.the-row v (w ∷ [])) (s : Search) (ns es : List ℕ) (rs : List Record) (xs : List ℕ) (kept : PicksIn (after p) v s ns es (places rs) xs) (same-nodes : length ns ≡ length (p .nodes .now)) (same-edges : length es ≡ length (p .edges .now)) (same-list : length rs ≡ length (p .list .now)) (same-scratch : length xs ≡ length (p .scratch .now)) (cv : Val) where
     -- the verdict is in its local
     abbrev pub Returning : List (Item 𝓤)
     Returning =
@@ -123,7 +123,7 @@ module _ {M : Type 1} (𝓤 : URA M) (H : Heap 𝓤) (A : Atoms 𝓤) (W : Given
         ∷ ‵ (flft (p .κ₂) (p .q₂))
         ∷ ‵ (flft (p .κ₁) (p .q₁))
         ∷ ‵ (flft (p .κ₀) (p .q₀))
-        ∷ ‵ (finally T.the-row (p .scratch .name) xs)
+        ∷ ‵ (finally u64 (p .scratch .name) xs)
         ∷ ‵ (finally T.the-row (p .list .name) rs)
         ∷ ‵ (finally u64 (p .edges .name) es)
         ∷ ‵ (finally u64 (p .nodes .name) ns)
@@ -149,8 +149,8 @@ module _ {M : Type 1} (𝓤 : URA M) (H : Heap 𝓤) (A : Atoms 𝓤) (W : Given
         ∷ ‵ (froom lent-slice l₁₆ 0)
         ∷ ‵ (froom record-ref l₁₇ 0)
         ∷ ‵ (froom record-slice l₁₈ 0)
-        ∷ ‵ (froom record-ref l₁₉ 0)
-        ∷ ‵ (froom record-slice l₂₀ 0)
+        ∷ ‵ (froom lent-ref l₁₉ 0)
+        ∷ ‵ (froom lent-slice l₂₀ 0)
         ∷ ‵ ftrue
         ∷ []
 
@@ -160,9 +160,9 @@ module _ {M : Type 1} (𝓤 : URA M) (H : Heap 𝓤) (A : Atoms 𝓤) (W : Given
         forget ! 23 refl $ forget ! 24 refl $ forget ! 25 refl $ forget ! 27 refl $
         move ! (16 ∷ 17 ∷ 18 ∷ 19 ∷ 20 ∷ 21 ∷ 22 ∷ 23 ∷ 24 ∷ 25 ∷ 26 ∷ 27 ∷ 28 ∷ 29 ∷ 30 ∷ 31 ∷ 32 ∷ 33 ∷ 34 ∷ 35 ∷ 36 ∷ 37 ∷ []) $ group ! 22 $
         move ! (0 ∷ 16 ∷ 9 ∷ 8 ∷ 7 ∷ 6 ∷ 5 ∷ 4 ∷ 3 ∷ 14 ∷ 15 ∷ 13 ∷ 12 ∷ 11 ∷ 10 ∷ 1 ∷ 2 ∷ []) $
-        freed W (‵ (flft (p .κ₀) (p .q₀)) ∷ ‵ (flft (p .κ₁) (p .q₁)) ∷ ‵ (flft (p .κ₂) (p .q₂)) ∷ ‵ (flft (p .κ₃) (p .q₃)) ∷ ‵ (flft (p .κ₄) (p .q₄)) ∷ ‵ (flft (p .κ₅) (p .q₅)) ∷ ‵ (flft (p .κ₆) (p .q₆)) ∷ ‵ (Weights p) ∷ ‵ (Profits p) ∷ ‵ (finally u64 (p .nodes .name) ns) ∷ ‵ (finally u64 (p .edges .name) es) ∷ ‵ (finally T.the-row (p .list .name) rs) ∷ ‵ (finally T.the-row (p .scratch .name) xs) ∷ ‵ (fobs (p .name) (S.the-row .coded .code s)) ∷ ‵ (fbor (p .κ₆) (Body (memory S.the-row) (p .block) (p .offset) (p .name))) ∷ []) E (prop (Post 𝓤 H A mem run p w)) (by ! (exits 𝓤 H A mem run p W v w s ns es rs xs vi kept same-nodes same-edges same-list same-scratch))
+        freed W (‵ (flft (p .κ₀) (p .q₀)) ∷ ‵ (flft (p .κ₁) (p .q₁)) ∷ ‵ (flft (p .κ₂) (p .q₂)) ∷ ‵ (flft (p .κ₃) (p .q₃)) ∷ ‵ (flft (p .κ₄) (p .q₄)) ∷ ‵ (flft (p .κ₅) (p .q₅)) ∷ ‵ (flft (p .κ₆) (p .q₆)) ∷ ‵ (Weights p) ∷ ‵ (Profits p) ∷ ‵ (finally u64 (p .nodes .name) ns) ∷ ‵ (finally u64 (p .edges .name) es) ∷ ‵ (finally T.the-row (p .list .name) rs) ∷ ‵ (finally u64 (p .scratch .name) xs) ∷ ‵ (fobs (p .name) (S.the-row .coded .code s)) ∷ ‵ (fbor (p .κ₆) (Body (memory S.the-row) (p .block) (p .offset) (p .name))) ∷ []) E (prop (Post 𝓤 H A mem run p w)) (by ! (exits 𝓤 H A mem run p W v w s ns es rs xs vi kept same-nodes same-edges same-list same-scratch))
 
-  module _ (c : Picked) (cv : Val) (ci : Is P.the-row c (cv ∷ [])) (z : Search) (stored : z ≡ c .search) (ns es : List ℕ) (rs xs : List Record) (picked : Picks (after p) c (ns) (es) (places (rs)) (places (xs))) (same-nodes : length ns ≡ length (p .nodes .now)) (same-edges : length es ≡ length (p .edges .now)) (same-list : length rs ≡ length (p .list .now)) (same-scratch : length xs ≡ length (p .scratch .now)) where
+  module _ (c : Picked) (cv : Val) (ci : Is P.the-row c (cv ∷ [])) (z : Search) (stored : z ≡ c .search) (ns es : List ℕ) (rs : List Record) (xs : List ℕ) (picked : Picks (after p) c (ns) (es) (places (rs)) xs) (same-nodes : length ns ≡ length (p .nodes .now)) (same-edges : length es ≡ length (p .edges .now)) (same-list : length rs ≡ length (p .list .now)) (same-scratch : length xs ≡ length (p .scratch .now)) where
     -- the search after it is stored
     abbrev pub Storing : List (Item 𝓤)
     Storing =
@@ -175,7 +175,7 @@ module _ {M : Type 1} (𝓤 : URA M) (H : Heap 𝓤) (A : Atoms 𝓤) (W : Given
         ∷ ‵ (flft (p .κ₂) (p .q₂))
         ∷ ‵ (flft (p .κ₁) (p .q₁))
         ∷ ‵ (flft (p .κ₀) (p .q₀))
-        ∷ ‵ (finally T.the-row (p .scratch .name) xs)
+        ∷ ‵ (finally u64 (p .scratch .name) xs)
         ∷ ‵ (finally T.the-row (p .list .name) rs)
         ∷ ‵ (finally u64 (p .edges .name) es)
         ∷ ‵ (finally u64 (p .nodes .name) ns)
@@ -201,8 +201,8 @@ module _ {M : Type 1} (𝓤 : URA M) (H : Heap 𝓤) (A : Atoms 𝓤) (W : Given
         ∷ ‵ (froom lent-slice l₁₆ 0)
         ∷ ‵ (froom record-ref l₁₇ 0)
         ∷ ‵ (froom record-slice l₁₈ 0)
-        ∷ ‵ (froom record-ref l₁₉ 0)
-        ∷ ‵ (froom record-slice l₂₀ 0)
+        ∷ ‵ (froom lent-ref l₁₉ 0)
+        ∷ ‵ (froom lent-slice l₂₀ 0)
         ∷ ‵ ftrue
         ∷ []
 
@@ -214,9 +214,9 @@ module _ {M : Type 1} (𝓤 : URA M) (H : Heap 𝓤) (A : Atoms 𝓤) (W : Given
         split ! $ move ! (1 ∷ []) $ use1 W (raw (fact 𝓤 (v ≡ c .verdict))) (told-verdict 𝓤 H A mem run p c cv ci v) $ heard ! (v ≡ c .verdict) (λ says.
         split ! $ move ! (1 ∷ []) $ facts ! Vd.the-row (Is Vd.the-row) (shows 𝓤 H A Vd.the-row) v (w ∷ []) (λ vi.
         land ! (from ! (stop !)) (init ! 17 refl (verdict-typed 𝓤 H A W v w vi)) $ drop ! $
-        returned v w vi z ns es rs xs (picks-in (after p) c ns es (places rs) (places xs) picked v z says stored) same-nodes same-edges same-list same-scratch cv))))
+        returned v w vi z ns es rs xs (picks-in (after p) c ns es (places rs) xs picked v z says stored) same-nodes same-edges same-list same-scratch cv))))
 
-  module _ (hv : Val) (c : Picked) (cv : Val) (ci : Is P.the-row c (cv ∷ [])) (ns es : List ℕ) (rs xs : List Record) (picked : Picks (after p) c (ns) (es) (places (rs)) (places (xs))) (same-nodes : length ns ≡ length (p .nodes .now)) (same-edges : length es ≡ length (p .edges .now)) (same-list : length rs ≡ length (p .list .now)) (same-scratch : length xs ≡ length (p .scratch .now)) where
+  module _ (hv : Val) (c : Picked) (cv : Val) (ci : Is P.the-row c (cv ∷ [])) (ns es : List ℕ) (rs : List Record) (xs : List ℕ) (picked : Picks (after p) c (ns) (es) (places (rs)) xs) (same-nodes : length ns ≡ length (p .nodes .now)) (same-edges : length es ≡ length (p .edges .now)) (same-list : length rs ≡ length (p .list .now)) (same-scratch : length xs ≡ length (p .scratch .now)) where
     -- the record is picked
     abbrev pub Picking : List (Item 𝓤)
     Picking =
@@ -226,7 +226,7 @@ module _ {M : Type 1} (𝓤 : URA M) (H : Heap 𝓤) (A : Atoms 𝓤) (W : Given
         ∷ ‵ (flft (p .κ₂) (p .q₂))
         ∷ ‵ (flft (p .κ₁) (p .q₁))
         ∷ ‵ (flft (p .κ₀) (p .q₀))
-        ∷ ‵ (finally T.the-row (p .scratch .name) xs)
+        ∷ ‵ (finally u64 (p .scratch .name) xs)
         ∷ ‵ (finally T.the-row (p .list .name) rs)
         ∷ ‵ (finally u64 (p .edges .name) es)
         ∷ ‵ (finally u64 (p .nodes .name) ns)
@@ -256,8 +256,8 @@ module _ {M : Type 1} (𝓤 : URA M) (H : Heap 𝓤) (A : Atoms 𝓤) (W : Given
         ∷ ‵ (froom lent-slice l₁₆ 0)
         ∷ ‵ (froom record-ref l₁₇ 0)
         ∷ ‵ (froom record-slice l₁₈ 0)
-        ∷ ‵ (froom record-ref l₁₉ 0)
-        ∷ ‵ (froom record-slice l₂₀ 0)
+        ∷ ‵ (froom lent-ref l₁₉ 0)
+        ∷ ‵ (froom lent-slice l₂₀ 0)
         ∷ ‵ ftrue
         ∷ []
 
@@ -314,8 +314,8 @@ module _ {M : Type 1} (𝓤 : URA M) (H : Heap 𝓤) (A : Atoms 𝓤) (W : Given
         ∷ ‵ (fat fullShare lent-slice l₁₆ 0 (edges-val p))
         ∷ ‵ (fat fullShare record-ref l₁₇ 0 (vptr (p .list .ptr .0) (p .list .ptr .1)))
         ∷ ‵ (fat fullShare record-slice l₁₈ 0 (list-val p))
-        ∷ ‵ (fat fullShare record-ref l₁₉ 0 (vptr (p .scratch .ptr .0) (p .scratch .ptr .1)))
-        ∷ ‵ (fat fullShare record-slice l₂₀ 0 (scratch-val p))
+        ∷ ‵ (fat fullShare lent-ref l₁₉ 0 (vptr (p .scratch .ptr .0) (p .scratch .ptr .1)))
+        ∷ ‵ (fat fullShare lent-slice l₂₀ 0 (scratch-val p))
         ∷ ‵ ftrue
         ∷ []
 
@@ -328,8 +328,8 @@ module _ {M : Type 1} (𝓤 : URA M) (H : Heap 𝓤) (A : Atoms 𝓤) (W : Given
         calls-at ! (fmOf 𝓤 H (W .laws) 𝓣) (PickC 𝓤 H A mem run) known-pick (to-pick 𝓤 H A mem run p hv hi) (and-then ! (load ! (from ! (stop !)) (look ! 9 refl)) (and-then ! (load ! (from ! (stop !)) (look ! 10 refl)) (and-then ! (load ! (from ! (stop !)) (look ! 22 refl)) (and-then ! (load ! (from ! (stop !)) (look ! 24 refl)) (and-then ! (load ! (from ! (stop !)) (look ! 26 refl)) (and-then ! (load ! (from ! (stop !)) (look ! 28 refl)) (and-then ! (load ! (from ! (stop !)) (look ! 15 refl)) (and-then ! (load ! (from ! (stop !)) (look ! 16 refl)) (and-then ! (load ! (from ! (stop !)) (look ! 18 refl)) (no-more !)))))))))) (λ cv.
         use1 W (later (some (λ (c : Picked). ((‵ (flft (p .κ₀) (p .q₀)) ⊛ (‵ (flft (p .κ₁) (p .q₁)) ⊛ (‵ (flft (p .κ₂) (p .q₂)) ⊛ (‵ (flft (p .κ₃) (p .q₃)) ⊛ (‵ (flft (p .κ₄) (p .q₄)) ⊛ (‵ (flft (p .κ₅) (p .q₅)) ⊛ ‵ ftrue)))))) ⊛ ‵ (P.the-row .own c (cv ∷ []))) ⊛ raw (ensured 𝓤 H A whole-pick.ended (whole-pick.clauses 𝓤 H A mem run) (p .κ₀, (p .κ₁, (p .κ₂, (p .κ₃, (p .κ₄, (p .κ₅, tt)))))) (pick-args 𝓤 H A mem run p hv hi) tt c)))) (id⊢ 𝓤 _) $ await ! tt $ pick ! (λ c.
         split ! $ move ! (1 ∷ []) $
-        use1 W (some (λ (ls : Unit {0} × (Unit {0} × (List ℕ × (List ℕ × (List Record × (List Record × (Unit {0} × (Unit {0} × (Unit {0} × Unit {0}))))))))). ‵ (lasts whole-pick.ended (p .κ₀, (p .κ₁, (p .κ₂, (p .κ₃, (p .κ₄, (p .κ₅, tt)))))) (pick-args 𝓤 H A mem run p hv hi) ls) ⊛ raw (fact 𝓤 (Picks (after p) c (ls .1 .1 .0) (ls .1 .1 .1 .0) (places (ls .1 .1 .1 .1 .0)) (places (ls .1 .1 .1 .1 .1 .0)))))) (id⊢ 𝓤 _) $ pick ! (λ ls.
-        split ! $ move ! (1 ∷ []) $ heard ! (Picks (after p) c (ls .1 .1 .0) (ls .1 .1 .1 .0) (places (ls .1 .1 .1 .1 .0)) (places (ls .1 .1 .1 .1 .1 .0))) (λ picked.
+        use1 W (some (λ (ls : Unit {0} × (Unit {0} × (List ℕ × (List ℕ × (List Record × (List ℕ × (Unit {0} × (Unit {0} × (Unit {0} × Unit {0}))))))))). ‵ (lasts whole-pick.ended (p .κ₀, (p .κ₁, (p .κ₂, (p .κ₃, (p .κ₄, (p .κ₅, tt)))))) (pick-args 𝓤 H A mem run p hv hi) ls) ⊛ raw (fact 𝓤 (Picks (after p) c (ls .1 .1 .0) (ls .1 .1 .1 .0) (places (ls .1 .1 .1 .1 .0)) (ls .1 .1 .1 .1 .1 .0))))) (id⊢ 𝓤 _) $ pick ! (λ ls.
+        split ! $ move ! (1 ∷ []) $ heard ! (Picks (after p) c (ls .1 .1 .0) (ls .1 .1 .1 .0) (places (ls .1 .1 .1 .1 .0)) (ls .1 .1 .1 .1 .1 .0)) (λ picked.
         fsplit ! $ drop ! $ fsplit ! $ drop ! $ fsplit ! $ fsplit ! $ move ! (1 ∷ []) $ feqL ! (λ same-nodes.
         move ! (1 ∷ []) $ fsplit ! $ fsplit ! $ move ! (1 ∷ []) $ feqL ! (λ same-edges.
         move ! (1 ∷ []) $ fsplit ! $ fsplit ! $ move ! (1 ∷ []) $ feqL ! (λ same-list.
@@ -380,8 +380,8 @@ module _ {M : Type 1} (𝓤 : URA M) (H : Heap 𝓤) (A : Atoms 𝓤) (W : Given
         ∷ ‵ (froom lent-slice l₁₆ 0)
         ∷ ‵ (froom record-ref l₁₇ 0)
         ∷ ‵ (froom record-slice l₁₈ 0)
-        ∷ ‵ (froom record-ref l₁₉ 0)
-        ∷ ‵ (froom record-slice l₂₀ 0)
+        ∷ ‵ (froom lent-ref l₁₉ 0)
+        ∷ ‵ (froom lent-slice l₂₀ 0)
         ∷ ‵ ftrue
         ∷ []
 

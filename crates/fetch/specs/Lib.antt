@@ -1,2 +1,0 @@
--- What `fetch` asks of the tables, and what it promises.
-pub mod Fetched

@@ -1,0 +1,2 @@
+-- The bytes of a query's record that are its path.
+pub mod Paths

@@ -1,0 +1,2 @@
+-- What a compile of a record struct is asked.
+pub mod Queried
