@@ -135,7 +135,7 @@ def hostile(dice):
 def damaged(dice, call):
     search, n = call.search, len(call.list)
     ways = [
-        lambda: call._replace(place=dice.choice((search.opened, search.opened + 1, 2**64 - 1))),
+        lambda: call._replace(place=dice.choice((search.opened, min(search.opened + 1, 2**64 - 1), 2**64 - 1))),
         lambda: call._replace(search=search._replace(opened=dice.choice((0, n + 1, 2**64 - 1, max(n - 1, 0))))),
         lambda: call._replace(search=search._replace(picks=dice.choice((2**64 - 1, 2**64 - 2)))),
         lambda: call._replace(search=search._replace(best=dice.choice((model.I64_MIN, model.I64_MAX, 0)))),
