@@ -39,7 +39,7 @@ text-limits = (
 
 pub largest-first : LargestFirst
 unfolding largestFrom largest
-largest-first = (refl, refl, refl, refl, refl, refl)
+largest-first = (refl, refl, refl, refl, refl, refl, refl)
 
 pub case-r-leaves : CaseRLeaves
 unfolding computing problemOf largestFrom largest askedFor unlessLast pickingLeaves startedLeaves runLeaves takes

@@ -70,6 +70,7 @@ LargestFirst =
     (largest (place 1 0 5 0 [] ∷ place 1 9 4 0 [] ∷ place 1 9 3 0 [] ∷ []) ≡ 0)
     × (largest (place 1 9 3 0 [] ∷ place 1 0 5 0 [] ∷ place 1 9 4 0 [] ∷ []) ≡ 1)
     × (largest (place 1 9 3 0 [] ∷ place 1 9 4 0 [] ∷ place 1 0 5 0 [] ∷ []) ≡ 2)
+    × (largest (place 1 9 4 0 [] ∷ place 1 9 3 0 [] ∷ place 1 0 5 0 [] ∷ []) ≡ 2)
     -- on a tie the lower place
     × (largest (place 1 0 5 0 [] ∷ place 1 9 5 0 [] ∷ place 1 9 3 0 [] ∷ []) ≡ 0)
     × (largest (place 1 9 3 0 [] ∷ place 1 0 5 0 [] ∷ place 1 9 5 0 [] ∷ []) ≡ 1)
