@@ -1,4 +1,6 @@
 // The block problem in code: what a weight counts as, what a decision's byte says, and the fast bound of a state.
+#![tactic(auto)]
+
 ghost use Rattle.std.specs.Prelude.{◌≡◌, cond, ◌≤◌, leb, drop};
 ghost use Rattle.knapsack.specs.Items.{items_of, counted, item_of, is_take};
 ghost use Rattle.knapsack.specs.FastBound.{fast_bound};

@@ -35,6 +35,7 @@ given_first (next {b = false} {P = P} d c) n e = later (λ (p : P). let z : ◌�
 -- 'never otherwise'
 pub first_given : {cs : List Check} {rs : List Row} → Checked cs rs → {n : ℕ} → First rs n → first_of cs ≡ some n
 unfolding first_of
+first_given done {n = n} x4 = elim x4 [ ]
 first_given (next {b = true} d c) (here p) = refl
 first_given (next {b = false} d c) (here p) = let z : ◌≡◌ {A = ℕ} 0 1 = cc (d.1 p) in absurd (omega arith)
 first_given (next {b = true} d c) (later q f) = absurd (q (d.0 refl))

@@ -4,8 +4,6 @@ use Rattle.words.specs.I64.{word}
 use Rattle.knapsack.specs.Items.{Item}
 unfoldable pub use Rattle.knapsack.specs.Items.{items_of}
 use Rattle.diagram.specs.Record.{Record}
-use Rattle.diagram.specs.Run.{Mode}
-use Rattle.diagram.specs.After4.{CutsetKind}
 
 -- Weights and profits as two lists, the page capacity and the width.
 pub record Problem : Type 0 where

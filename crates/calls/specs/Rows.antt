@@ -1,5 +1,5 @@
 -- 'Refusal numbers', 1 to 9: what each row of document 01's table says, in the document's words and order.
-use Rattle.std.specs.Prelude.{◌≡◌, ◌⊎◌, ◌≢◌, Bool, true, false, cond, ℕ, zero, suc, ◌+◌, ◌<◌, eqb, ℤ, pos, length, get_or}
+use Rattle.std.specs.Prelude.{◌≡◌, ◌⊎◌, ◌≢◌, cond, ℕ, ◌+◌, ◌<◌, eqb, pos, length, get_or}
 use mathlib.Core.List.{List, [], ◌∷◌, Memᴰ}
 use Rattle.knapsack.specs.Items.{Item, no_item, counted, item_of, is_take}
 use Rattle.calls.specs.Asked.{Problem, Given, items_of}

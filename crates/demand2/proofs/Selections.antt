@@ -24,7 +24,7 @@ use Rattle.theorems.proofs.Path.{sum_taken, times_named, named_is, names_none, V
 use Rattle.theorems.proofs.Steps.{worth_of}
 use Rattle.theorems.proofs.Whole.{takes_item, Whole}
 use Rattle.call_laws.proofs.Accepted.{same_namings}
-use Rattle.demand2.specs.Records.{items_in, item_count, Allowed, Valid, Keeps, earns, RecordOptimum, decisions, Achieved}
+use Rattle.demand2.specs.Records.{items_in, item_count, Allowed, Valid, Keeps, RecordOptimum, decisions, Achieved}
 use Rattle.demand2.proofs.Numbers.{number_natural, at_most_natural, natural_at_most}
 use Rattle.demand2.proofs.Accepted.{count_is, valid_record}
 use Rattle.demand2.proofs.Sums.{total, weight_total, profit_total, total_split, path_sum}
@@ -48,29 +48,29 @@ said_at k (suc n) p zero h = let e : k + 0 ≡ k = omega arith in rw e
 said_at k (suc n) p (suc j) h = let e : k + suc j ≡ suc k + j = omega arith in rw e (said_at (suc k) n p j (omega arith))
 
 -- a byte of a path names its item
-named_by : (p : List ℕ) (b : ℕ) → Memᴰ b p → 1 ≤ times_named (item_of b) p
+named_by : (b : ℕ) (p : List ℕ) → Memᴰ b p → 1 ≤ times_named (item_of b) p
 unfolding times_named
-named_by p b (Memᴰ.head {x = c} {xs = rest} e) = omega (arith, (named_is (item_of b) c (item_of c) refl).0 (ap item_of e))
-named_by p b (Memᴰ.tail {x = c} {xs = rest} m) = omega (arith, named_by rest b m)
+named_by b p (Memᴰ.head {x = c} {xs = rest} e) = omega (arith, (named_is (item_of b) c (item_of c) refl).0 (ap item_of e))
+named_by b p (Memᴰ.tail {x = c} {xs = rest} m) = omega (arith, named_by b rest m)
 
 -- and is the byte that says whether it is taken, if the item is named once
-byte_says : (p : List ℕ) (b : ℕ) → Memᴰ b p → times_named (item_of b) p ≡ 1 → takes_item (item_of b) p ≡ is_take b
+byte_says : (b : ℕ) (p : List ℕ) → Memᴰ b p → times_named (item_of b) p ≡ 1 → takes_item (item_of b) p ≡ is_take b
 unfolding times_named takes_item
-byte_says p b (Memᴰ.head {x = c} {xs = rest} e) h = rw (eq-eqb (item_of c) (item_of b) (ap item_of (sym e))) (ap is_take (sym e))
-byte_says p b (Memᴰ.tail {x = c} {xs = rest} m) h =
+byte_says b p (Memᴰ.head {x = c} {xs = rest} e) h = rw (eq-eqb (item_of c) (item_of b) (ap item_of (sym e))) (ap is_take (sym e))
+byte_says b p (Memᴰ.tail {x = c} {xs = rest} m) h =
     by_test (λ _. takes_item (item_of b) (c ∷ rest) ≡ is_take b) (eqb (item_of c) (item_of b))
-    (λ t. absurd (omega (arith, (named_is (item_of b) c (item_of c) refl).0 (sym (eqb-true (item_of c) (item_of b) t)), named_by rest b m)))
-    (λ t. let e = eqb-false (item_of c) (item_of b) t in rw t (byte_says rest b m (omega (arith, (named_is (item_of b) c (item_of c) refl).1 (λ q. e (sym q))))))
+    (λ t. absurd (omega (arith, (named_is (item_of b) c (item_of c) refl).0 (sym (eqb-true (item_of c) (item_of b) t)), named_by b rest m)))
+    (λ t. let e = eqb-false (item_of c) (item_of b) t in rw t (byte_says b rest m (omega (arith, (named_is (item_of b) c (item_of c) refl).1 (λ q. e (sym q))))))
 
 -- A path that names each of the first n items once, and no other, is kept by what it says of them, whatever is said of the rest.
 said_keeps : (n : ℕ) (p : List ℕ) (rest : List Bool) → ((k : ℕ) → k < n → times_named k p ≡ 1) → ((k : ℕ) → n ≤ k → times_named k p ≡ 0) → Keeps p (said 0 n p ++ rest)
 said_keeps n p rest once none b m =
-    let below : item_of b < n = by_test (λ _. item_of b < n) (ltb (item_of b) n) (λ t. ltb-true _ _ t) (λ t. absurd (omega (arith, none (item_of b) (ltb-false _ _ t), named_by p b m))) in
+    let below : item_of b < n = by_test (λ _. item_of b < n) (ltb (item_of b) n) (λ t. ltb-true _ _ t) (λ t. absurd (omega (arith, none (item_of b) (ltb-false _ _ t), named_by b p m))) in
     let z : 0 + item_of b ≡ item_of b = omega arith in
     get_or-append (said 0 n p) rest false (item_of b) (omega (arith, said_length 0 n p))
     ∙ said_at 0 n p (item_of b) below
     ∙ ap (λ (k : ℕ). takes_item k p) z
-    ∙ byte_says p b m (once (item_of b) below)
+    ∙ byte_says b p m (once (item_of b) below)
 
 -- ---- a valid record: what its path takes, and what is left to a completion
 

@@ -19,7 +19,7 @@ use Rattle.calls.specs.Table.{row, problem_rows, Clear, end, past}
 use Rattle.calls.specs.Refusals.{problem_checks}
 use Rattle.calls.proofs.Tests.{by_equal}
 use Rattle.calls.proofs.Refusals.{Checked, done, next, checked_append, none_clear, problem_checked}
-use Rattle.demand2.specs.Records.{items_in, Allowed, Valid, earns}
+use Rattle.demand2.specs.Records.{items_in, Allowed, Valid}
 use Rattle.demand2.proofs.Numbers.{at_most_natural}
 use Rattle.searches.specs.Places.{Place, given_at, root_place, over_places}
 use Rattle.searches.specs.Search.{Search, open_in}

@@ -80,6 +80,7 @@ module _ (q : Asked) (s : Search) (h : Held) where
   run_first u (later x (later y (later w (here a)))) =
       let s13 : PickRow13 q s h = (u, inl a) in
       later (λ (z : PickRow10 q s h). x z.1) (later (λ (z : PickRow11 q s h). y z.1) (later (λ (z : PickRow12 q s h). w z.1) (here s13)))
+  run_first {n = n} u (later x (later y (later w (later _ x24)))) = elim x24 [ ]
 
   -- the compile is refused: the run's own row
   halted_row : Compiles q s h → (n : ℕ) (x : Effect) → Compiling.View request rooms x → x.answer ≡ refused n → First (run_rows request rooms) n

@@ -1,6 +1,6 @@
 -- 'After the last layer', exactness: 'The diagram is exact if nothing was squashed or, relaxed only, if that walk succeeded.'
 use Rattle.std.specs.Prelude.{Bool, true, false, ◌||◌}
-use Rattle.diagram.specs.Tables.{LastExact, unsquashed, squashed_after, Range, Diagram}
+use Rattle.diagram.specs.Tables.{LastExact, unsquashed, squashed_after, Diagram}
 use Rattle.diagram.specs.Run.{Mode}
 use Rattle.diagram.specs.After1.{exact_path}
 

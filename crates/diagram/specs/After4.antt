@@ -1,5 +1,5 @@
 -- 'After the last layer', the cutset: 'A cutset exists only for relaxed diagrams.'
-use Rattle.std.specs.Prelude.{Bool, true, false, not, cond, ◌&&◌, List, [], ◌∷◌, ◌++◌, ℕ}
+use Rattle.std.specs.Prelude.{not, cond, ◌&&◌, List, [], ◌∷◌, ◌++◌, ℕ}
 use Rattle.diagram.specs.Node.{Node, Edge, node_at, edge_at, update, in_cutset}
 use Rattle.diagram.specs.Tables.{Range, LastExact, unsquashed, squashed_after, Diagram, rows_of, inbound}
 use Rattle.diagram.specs.Run.{Mode, exactly, restricted, relaxing}

@@ -1,5 +1,5 @@
 -- 'After the last layer', 'Local bounds, if relaxed and squashed'.
-use Rattle.std.specs.Prelude.{Bool, true, false, cond, List, [], ◌∷◌, ℕ, ◌+◌, max}
+use Rattle.std.specs.Prelude.{cond, List, [], ◌∷◌, ℕ, ◌+◌, max}
 use Rattle.words.specs.I64.{mid, sat_add}
 use Rattle.diagram.specs.Node.{Node, Edge, node_at, edge_at, update, marked_with}
 use Rattle.diagram.specs.Tables.{Range, LastExact, unsquashed, squashed_after, Diagram, rows_of, inbound}

@@ -1,15 +1,15 @@
 -- How a run's answer and tables are shown in the figures: i64 numbers as themselves, flags by their letters.
-use Rattle.std.specs.Prelude.{Bool, true, false, cond, List, [], ◌∷◌, ◌++◌, map, ℕ, ℤ, length}
+use Rattle.std.specs.Prelude.{Bool, cond, List, [], ◌∷◌, ◌++◌, map, ℕ, ℤ, length}
 use Rattle.std.proofs.Math.Option.{Option, none, some}
 use Rattle.words.specs.I64.{i64_min, i64_max, word, number}
 use Rattle.knapsack.specs.Items.{Item}
 use Rattle.diagram.specs.Record.{Record, root_record}
 use Rattle.diagram.specs.Node.{Node, Edge, node_at}
 use Rattle.diagram.specs.Tables.{Range, Diagram, Found, at, nowhere}
-use Rattle.diagram.specs.Run.{Mode, Settings}
+use Rattle.diagram.specs.Run.{Mode}
 use Rattle.diagram.specs.After3.{path_to}
 use Rattle.diagram.specs.After4.{CutsetKind}
-use Rattle.diagram.specs.After6.{Outcome, drained, Answer, refused, finished, run}
+use Rattle.diagram.specs.After6.{drained, Answer, refused, finished, run}
 
 -- a record: capacity, value, bound, depth, path
 pub data ShownRecord : Type 0 where

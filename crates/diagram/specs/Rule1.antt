@@ -1,6 +1,5 @@
 -- Rule 1: 'Row 0 is the root', and what a new row holds.
-use Rattle.std.specs.Prelude.{Bool, true, false, List, [], ◌∷◌, ℕ, ltb}
-use Rattle.words.specs.I64.{top}
+use Rattle.std.specs.Prelude.{true, [], ◌∷◌, ltb}
 use Rattle.diagram.specs.Record.{Record}
 use Rattle.diagram.specs.Node.{fresh}
 use Rattle.diagram.specs.Tables.{Diagram, unsquashed}

@@ -3,7 +3,7 @@ use Rattle.std.specs.Prelude.{Bool, true, false, List, [], ◌∷◌, ℕ, suc, 
 use Rattle.knapsack.specs.Items.{Item}
 use Rattle.diagram.specs.Record.{Record}
 use Rattle.diagram.specs.Node.{Node, node_at}
-use Rattle.diagram.specs.Tables.{Range, Diagram, rows_of, coming}
+use Rattle.diagram.specs.Tables.{Diagram, rows_of, coming}
 use Rattle.diagram.specs.Run.{Settings, Run, going, stopped, and_then, only_if}
 use Rattle.diagram.specs.Rule1.{rooted}
 use Rattle.diagram.specs.Rule3.{expand_all}

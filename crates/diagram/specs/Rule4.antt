@@ -1,5 +1,5 @@
 -- Rule 4: one more edge, to a child that is in the coming layer already or to a new one.
-use Rattle.std.specs.Prelude.{Bool, true, false, cond, ◌&&◌, List, [], ◌∷◌, ◌++◌, ℕ, zero, suc, ◌+◌, ◌-◌, leb, ltb, eqb, length, drop}
+use Rattle.std.specs.Prelude.{Bool, true, false, cond, ◌&&◌, List, [], ◌∷◌, ◌++◌, ℕ, suc, ◌+◌, ◌-◌, leb, ltb, eqb, length, drop}
 use Rattle.words.specs.I64.{mid, sat_add}
 use Rattle.diagram.specs.Node.{Node, Edge, node_at, update, fresh, entered}
 use Rattle.diagram.specs.Tables.{Diagram, Found, at, nowhere, with_nodes}

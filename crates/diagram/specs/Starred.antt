@@ -1,11 +1,11 @@
 -- 'Figures to check by hand': the starred cases, each with all that document 01's row gives and besides the whole drained list, the
 -- best exact value, both counts and both paths.
-use Rattle.std.specs.Prelude.{◌≡◌, Bool, true, false, List, [], ◌∷◌, map, ℕ, ℤ, pos}
-use Rattle.std.proofs.Math.Option.{Option, none, some}
+use Rattle.std.specs.Prelude.{◌≡◌, true, false, List, [], ◌∷◌, map, pos}
+use Rattle.std.proofs.Math.Option.{none, some}
 use Rattle.knapsack.specs.Items.{Item}
-use Rattle.diagram.specs.Run.{Mode, exactly, restricted, relaxing}
-use Rattle.diagram.specs.After4.{CutsetKind, lastExactLayer, frontier}
-use Rattle.diagram.specs.Figures.{ShownRecord, shown, Shown, answer, Case, case, shown_of, lowest, item}
+use Rattle.diagram.specs.Run.{exactly, restricted, relaxing}
+use Rattle.diagram.specs.After4.{lastExactLayer, frontier}
+use Rattle.diagram.specs.Figures.{ShownRecord, shown, answer, Case, case, shown_of, lowest, item}
 
 -- 'T is the three items of case R, capacity 2.'
 abbrev T : List Item

@@ -1,6 +1,6 @@
 -- The traps that the starred cases don't show: the smallest input found for each place where a reading could go wrong, with what is right.
-use Rattle.std.specs.Prelude.{◌≡◌, Bool, true, false, List, [], ◌∷◌, map, ℕ, ℤ, pos, replicate}
-use Rattle.std.proofs.Math.Option.{Option, none, some}
+use Rattle.std.specs.Prelude.{◌≡◌, true, false, List, [], ◌∷◌, map, ℕ, ℤ, pos, replicate}
+use Rattle.std.proofs.Math.Option.{none, some}
 use Rattle.knapsack.specs.Items.{Item}
 use Rattle.diagram.specs.Record.{padded, root_record}
 use Rattle.diagram.specs.Node.{no_node}
@@ -9,7 +9,7 @@ use Rattle.diagram.specs.Run.{Mode, exactly, restricted, relaxing, Settings, Run
 use Rattle.diagram.specs.Rule4.{new_child}
 use Rattle.diagram.specs.Rule6.{Squashed, layer, halted, merge_into}
 use Rattle.diagram.specs.After4.{CutsetKind, lastExactLayer, frontier}
-use Rattle.diagram.specs.Figures.{shown, ShownRecord, show_record, shown_record, Shown, answer, E, R, M, C, D, node, edge, range, ShownTables, Given, shown_of, tables_of, lowest, highest, item, case, case_from, Case}
+use Rattle.diagram.specs.Figures.{shown, ShownRecord, show_record, shown_record, answer, E, R, M, C, D, node, edge, range, ShownTables, Given, shown_of, tables_of, lowest, highest, item, case, case_from, Case}
 
 -- Answers. Each case stands under the rule or paragraph that it pins.
 unfoldable pub answers : List Case

@@ -1,23 +1,19 @@
 -- A job's run is a trace of a search; where it ends, the list is empty, so demand 3 says what it found.
-use mathlib.Core.Path.{◌≡◌, refl, sym, ap, subst, ◌∙◌}
+use mathlib.Core.Path.{◌≡◌, refl, ap, subst, ◌∙◌}
 use mathlib.Core.Bool.{Bool, true, false}
 use mathlib.Core.List.{List}
-use Prim.Native.Nat.{ℕ, zero, suc, ◌+◌, ◌<◌, ◌≤◌}
+use Prim.Native.Nat.{ℕ, zero, suc, ◌+◌, ◌≤◌}
 use native.Mathlib.Omega.{arith}
 use lib.Dec.{eqb}
-use lib.IntN.{ℤ, pos}
-use lib.ListN.{length}
 use lib.Signed.{le_z_yes, lt_z_yes}
 use borrow.Author.Tests.{eqb-true}
 use Rattle.words.specs.I64.{InI64, i64_min}
-use Rattle.knapsack.specs.Knapsack.{profit_of}
 use Rattle.knapsack.specs.Best.{best}
 use Rattle.knapsack.proofs.Best.{best_is_optimum}
 use Rattle.diagram.specs.After4.{CutsetKind}
 use Rattle.calls.specs.Asked.{Problem}
 use Rattle.calls.specs.Compile.{Lent, rooms_of}
 use Rattle.demand2.specs.Records.{items_in, Allowed}
-use Rattle.demand3.specs.Searches.{larger}
 use Rattle.demand3.proofs.Always.{start_accepted}
 use Rattle.demand3.proofs.Ended.{empty_means_optimal}
 use Rattle.demand3.proofs.Few.{picks_are_few}
@@ -30,10 +26,10 @@ use Rattle.searches.specs.Start as Start
 use Rattle.searches.specs.Start.{start}
 use Rattle.searches.specs.Pick as Pick
 use Rattle.searches.specs.Pick.{pick, Held, After}
-use Rattle.searches.specs.Trace.{Blocks, Attempt, Trace, begins, goes_on}
+use Rattle.searches.specs.Trace.{Trace, begins, goes_on}
 use Rattle.jobs.specs.Run as Run
 use Rattle.jobs.specs.Run.{Ending, ended, asked_for, unless_refused, picking, all_turns, started_on, run_of}
-use Rattle.job_laws.specs.Statements.{blocks_of, Answered, RunAnswersTheOptimum}
+use Rattle.job_laws.specs.Statements.{blocks_of, RunAnswersTheOptimum}
 
 search_in_lem : Search → Ending → Search
 search_in_lem s (Run.refused n) = s

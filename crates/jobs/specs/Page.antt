@@ -1,9 +1,9 @@
 -- What a job's run is written as: best, a line for each item, picks; or the refusal alone.
-use Rattle.std.specs.Prelude.{Bool, false, cond, ◌||◌, List, [], ◌∷◌, ◌++◌, ℕ, zero, suc, ◌+◌, ◌*◌, eqb, ℤ, pos, negsuc, length, take}
+use Rattle.std.specs.Prelude.{Bool, false, cond, ◌||◌, List, [], ◌∷◌, ◌++◌, ℕ, zero, suc, eqb, ℤ, pos, negsuc, take}
 use Rattle.knapsack.specs.Items.{takes}
 use Rattle.numbers.specs.Decimal.{decimal}
 use Rattle.searches.specs.Search.{Search}
-use Rattle.jobs.specs.Text.{Job, line, line3, item}
+use Rattle.jobs.specs.Text.{line, line3, item}
 use Rattle.jobs.specs.Run.{Ending, refused, ended}
 
 -- the words of an answer, as ASCII bytes

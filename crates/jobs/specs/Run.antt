@@ -1,5 +1,5 @@
 -- The run of a job: a start at i64 minimum, then picks of the largest bound, until the list is empty or a call is refused.
-use Rattle.std.specs.Prelude.{true, false, List, [], ◌∷◌, map, ℕ, zero, suc, ◌+◌, eqb, ℤ}
+use Rattle.std.specs.Prelude.{true, false, List, [], ◌∷◌, map, ℕ, zero, suc, eqb, ℤ}
 use Rattle.std.specs.Int.Signed.{lt_z}
 use Rattle.words.specs.I64.{i64_min}
 use Rattle.knapsack.specs.Items.{Item}

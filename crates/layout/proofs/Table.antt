@@ -61,7 +61,7 @@ module _ {R : Type 0} (encode : R → List ℕ) (w : ℕ) (fixed : (r : R) → l
   replaced_in (x ∷ rs) rest zero m h =
       let z : zero * w ≡ zero = zero-mul w in
       let y : zero + w ≡ w = omega arith in
-      rw (z, y, append_assoc, drop_at (encode x) (words_of encode rs ++ rest) w (fixed x)) (sym (append_assoc (encode m) (words_of encode rs) rest))
+      rw (z, y, append_assoc (encode x) (words_of encode rs) rest, drop_at (encode x) (words_of encode rs ++ rest) w (fixed x)) (sym (append_assoc (encode m) (words_of encode rs) rest))
   replaced_in (x ∷ rs) rest (suc r) m h =
       let z : suc r * w ≡ length (encode x) + r * w = omega (arith, suc-mul r w, fixed x) in
       let y : length (encode x) + r * w + w ≡ length (encode x) + (r * w + w) = omega arith in

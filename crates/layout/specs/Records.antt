@@ -1,5 +1,5 @@
 -- How records stand in a flat list of words: a fixed count to a record, the path one byte to a word.
-use Rattle.std.specs.Prelude.{List, [], ◌∷◌, ℕ, ◌+◌, ◌≤◌, length, get_or, take, drop}
+use Rattle.std.specs.Prelude.{List, [], ◌∷◌, ℕ, ◌≤◌, length, get_or, take, drop}
 use Rattle.diagram.specs.Record.{Record, path_room, padded}
 use Rattle.layout.specs.Table.{words_of}
 

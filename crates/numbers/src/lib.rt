@@ -1,4 +1,6 @@
 // Decimal numbers as text: every u64 written as its digits, and read back from them.
+#![tactic(auto)]
+
 ghost use Rattle.std.specs.Prelude.{◌≡◌, ◌+◌, ◌≤◌, length};
 ghost use Rattle.std.proofs.Math.Seq.{paste};
 ghost use Rattle.numbers.specs.Decimal.{pushed, number_of};

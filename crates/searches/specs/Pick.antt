@@ -1,5 +1,5 @@
 -- The call `pick`: its answer, and the search, the list, the scratch list and the tables after it, for every input and every old content.
-use Rattle.std.specs.Prelude.{Bool, true, false, not, cond, ◌||◌, List, [], ◌∷◌, ◌++◌, map, ℕ, suc, ◌-◌, leb, ltb, eqb, ℤ, length, get_or}
+use Rattle.std.specs.Prelude.{Bool, true, false, not, cond, ◌||◌, List, [], ◌∷◌, ◌++◌, map, ℕ, suc, leb, ltb, eqb, ℤ, length, get_or}
 use Rattle.std.proofs.Math.Option.{Option, none, some}
 use Rattle.std.specs.Int.Signed.{lt_z}
 use Rattle.diagram.specs.Run.{relaxing}

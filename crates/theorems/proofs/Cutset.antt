@@ -13,7 +13,6 @@ use Rattle.knapsack.proofs.Best.{best_no_items}
 use Rattle.knapsack.proofs.Cases.{by_test}
 use Rattle.diagram.specs.After4.{lastExactLayer, frontier, Cutset, list_row, list_rows, layer_cutset, frontier_edges, frontier_rows, frontier_layers, no_cutset, cutset_of}
 use Rattle.diagram.specs.Node.{Node, Edge, node_at, edge_at, in_cutset}
-use Rattle.diagram.specs.Rule6.{layer}
 use Rattle.diagram.specs.Tables.{Range, LastExact, squashed_after, Diagram, rows_of, coming, inbound}
 use Rattle.theorems.proofs.Bool.{and_both}
 use Rattle.theorems.proofs.Rows.{update_at, range_mem, range_in, inbound_mem}
@@ -91,14 +90,14 @@ edges_added ns es (e ∷ l) c g =
     let a = add_added ns c (edge_at es e).from g in
     added_trans ns c _ _ a (edges_added ns es l (add c (edge_at es e).from) a.listing)
 
-edges_has : (ns : List Node) (es : List Edge) (l : List ℕ) (e : ℕ) → Memᴰ e l → (c : Cutset) → Listing ns c → (edge_at es e).from < length ns → (node_at ns (edge_at es e).from).exact ≡ true → Memᴰ (edge_at es e).from (frontier_edges es l c).listed
+edges_has : (ns : List Node) (es : List Edge) (e : ℕ) (l : List ℕ) → Memᴰ e l → (c : Cutset) → Listing ns c → (edge_at es e).from < length ns → (node_at ns (edge_at es e).from).exact ≡ true → Memᴰ (edge_at es e).from (frontier_edges es l c).listed
 unfolding frontier_edges
-edges_has ns es l e (mathlib.Core.List.Memᴰ.head {x = k} {xs = ks} q) c g h x =
+edges_has ns es e l (mathlib.Core.List.Memᴰ.head {x = k} {xs = ks} q) c g h x =
     let a = add_added ns c (edge_at es k).from g in
     (edges_added ns es ks (add c (edge_at es k).from) a.listing).keeps _ (rw q (add_has ns c (edge_at es k).from g (rw (← q) h) (rw (← q) x)))
-edges_has ns es l e (mathlib.Core.List.Memᴰ.tail {x = k} {xs = ks} q) c g h x =
+edges_has ns es e l (mathlib.Core.List.Memᴰ.tail {x = k} {xs = ks} q) c g h x =
     let a = add_added ns c (edge_at es k).from g in
-    edges_has ns es ks e q (add c (edge_at es k).from) a.listing h x
+    edges_has ns es e ks q (add c (edge_at es k).from) a.listing h x
 
 pub row_added : (b : Bool) (ns : List Node) (es : List Edge) (l : List ℕ) (c : Cutset) → Listing ns c → Added ns c (cond b c (frontier_edges es l c))
 row_added true ns es l c g = record { listing = g; keeps = λ r m. m }
@@ -111,15 +110,15 @@ rows_added ns es (r ∷ rs) c g =
     let a = row_added (node_at c.nodes r).exact ns es (inbound es r) c g in
     added_trans ns c _ _ a (rows_added ns es rs (cond (node_at c.nodes r).exact c (frontier_edges es (inbound es r) c)) a.listing)
 
-rows_has : (ns : List Node) (es : List Edge) (rs : List ℕ) (r : ℕ) → Memᴰ r rs → (c : Cutset) → Listing ns c → (node_at ns r).exact ≡ false → (e : ℕ) → e < length es → (edge_at es e).to ≡ r → (edge_at es e).from < length ns → (node_at ns (edge_at es e).from).exact ≡ true → Memᴰ (edge_at es e).from (frontier_rows es rs c).listed
+rows_has : (ns : List Node) (es : List Edge) (r : ℕ) (rs : List ℕ) → Memᴰ r rs → (c : Cutset) → Listing ns c → (node_at ns r).exact ≡ false → (e : ℕ) → e < length es → (edge_at es e).to ≡ r → (edge_at es e).from < length ns → (node_at ns (edge_at es e).from).exact ≡ true → Memᴰ (edge_at es e).from (frontier_rows es rs c).listed
 unfolding frontier_rows
-rows_has ns es rs r (mathlib.Core.List.Memᴰ.head {x = k} {xs = ks} q) c g nx e l d h x =
+rows_has ns es r rs (mathlib.Core.List.Memᴰ.head {x = k} {xs = ks} q) c g nx e l d h x =
     let nx' : (node_at c.nodes k).exact ≡ false = plain_exact _ _ (g.plain_is k) ∙ (rw q at nx) in
     let a = edges_added ns es (inbound es k) c g in
-    subst (λ (b : Bool). Memᴰ (edge_at es e).from (frontier_rows es ks (cond b c (frontier_edges es (inbound es k) c))).listed) (sym nx') ((rows_added ns es ks (frontier_edges es (inbound es k) c) a.listing).keeps _ (edges_has ns es (inbound es k) e (inbound_mem es k e l (d ∙ q)) c g h x))
-rows_has ns es rs r (mathlib.Core.List.Memᴰ.tail {x = k} {xs = ks} q) c g nx e l d h x =
+    subst (λ (b : Bool). Memᴰ (edge_at es e).from (frontier_rows es ks (cond b c (frontier_edges es (inbound es k) c))).listed) (sym nx') ((rows_added ns es ks (frontier_edges es (inbound es k) c) a.listing).keeps _ (edges_has ns es e (inbound es k) (inbound_mem es k e l (d ∙ q)) c g h x))
+rows_has ns es r rs (mathlib.Core.List.Memᴰ.tail {x = k} {xs = ks} q) c g nx e l d h x =
     let a = row_added (node_at c.nodes k).exact ns es (inbound es k) c g in
-    rows_has ns es ks r q (cond (node_at c.nodes k).exact c (frontier_edges es (inbound es k) c)) a.listing nx e l d h x
+    rows_has ns es r ks q (cond (node_at c.nodes k).exact c (frontier_edges es (inbound es k) c)) a.listing nx e l d h x
 
 pub layers_added : (ns : List Node) (es : List Edge) (ls : List Range) (c : Cutset) → Listing ns c → Added ns c (frontier_layers es ls c)
 unfolding frontier_layers
@@ -128,13 +127,13 @@ layers_added ns es (l ∷ ls) c g =
     let a = rows_added ns es (rows_of l) c g in
     added_trans ns c _ _ a (layers_added ns es ls (frontier_rows es (rows_of l) c) a.listing)
 
-layers_has : (ns : List Node) (es : List Edge) (ls : List Range) (S : Range) → Memᴰ S ls → (c : Cutset) → Listing ns c → (r : ℕ) → S.lo ≤ r → r < S.hi → (node_at ns r).exact ≡ false → (e : ℕ) → e < length es → (edge_at es e).to ≡ r → (edge_at es e).from < length ns → (node_at ns (edge_at es e).from).exact ≡ true → Memᴰ (edge_at es e).from (frontier_layers es ls c).listed
+layers_has : (ns : List Node) (es : List Edge) (S : Range) (ls : List Range) → Memᴰ S ls → (c : Cutset) → Listing ns c → (r : ℕ) → S.lo ≤ r → r < S.hi → (node_at ns r).exact ≡ false → (e : ℕ) → e < length es → (edge_at es e).to ≡ r → (edge_at es e).from < length ns → (node_at ns (edge_at es e).from).exact ≡ true → Memᴰ (edge_at es e).from (frontier_layers es ls c).listed
 unfolding frontier_layers
-layers_has ns es ls S (mathlib.Core.List.Memᴰ.head {x = L} {xs = ks} q) c g r a b nx e l d h x =
-    let m = rows_has ns es (rows_of L) r (subst (λ (z : Range). Memᴰ r (rows_of z)) q (range_mem S r a b)) c g nx e l d h x in
+layers_has ns es S ls (mathlib.Core.List.Memᴰ.head {x = L} {xs = ks} q) c g r a b nx e l d h x =
+    let m = rows_has ns es r (rows_of L) (subst (λ (z : Range). Memᴰ r (rows_of z)) q (range_mem S r a b)) c g nx e l d h x in
     (layers_added ns es ks (frontier_rows es (rows_of L) c) (rows_added ns es (rows_of L) c g).listing).keeps _ m
-layers_has ns es ls S (mathlib.Core.List.Memᴰ.tail {x = L} {xs = ks} q) c g r a b nx e l d h x =
-    layers_has ns es ks S q (frontier_rows es (rows_of L) c) (rows_added ns es (rows_of L) c g).listing r a b nx e l d h x
+layers_has ns es S ls (mathlib.Core.List.Memᴰ.tail {x = L} {xs = ks} q) c g r a b nx e l d h x =
+    layers_has ns es S ks q (frontier_rows es (rows_of L) c) (rows_added ns es (rows_of L) c g).listing r a b nx e l d h x
 
 pub start_listing : (ns : List Node) → ((r : ℕ) → r < length ns → (node_at ns r).cutset ≡ false) → Listing ns (record { nodes = ns; listed = [] })
 start_listing ns cl =
@@ -149,14 +148,14 @@ all_added ns (r ∷ rs) c g b =
     let p = row_listing ns c r z.0 z.1 g in
     added_trans ns c (list_row r c) _ (record { listing = p; keeps = λ q m. mathlib.Core.List.Memᴰ.append_left _ m }) (all_added ns rs (list_row r c) p (λ q m. b q (mathlib.Core.List.Memᴰ.tail m)))
 
-all_has : (ns : List Node) (rs : List ℕ) (r : ℕ) → Memᴰ r rs → (c : Cutset) → Listing ns c → ((r : ℕ) → Memᴰ r rs → (r < length ns) × ((node_at ns r).exact ≡ true)) → Memᴰ r (list_rows rs c).listed
+all_has : (ns : List Node) (r : ℕ) (rs : List ℕ) → Memᴰ r rs → (c : Cutset) → Listing ns c → ((r : ℕ) → Memᴰ r rs → (r < length ns) × ((node_at ns r).exact ≡ true)) → Memᴰ r (list_rows rs c).listed
 unfolding list_rows list_row
-all_has ns rs r (mathlib.Core.List.Memᴰ.head {x = k} {xs = ks} q) c g b =
+all_has ns r rs (mathlib.Core.List.Memᴰ.head {x = k} {xs = ks} q) c g b =
     let z = b k (mathlib.Core.List.Memᴰ.head refl) in
     (all_added ns ks (list_row k c) (row_listing ns c k z.0 z.1 g) (λ y m. b y (mathlib.Core.List.Memᴰ.tail m))).keeps r (mathlib.Core.List.Memᴰ.append_right c.listed (mathlib.Core.List.Memᴰ.head q))
-all_has ns rs r (mathlib.Core.List.Memᴰ.tail {x = k} {xs = ks} q) c g b =
+all_has ns r rs (mathlib.Core.List.Memᴰ.tail {x = k} {xs = ks} q) c g b =
     let z = b k (mathlib.Core.List.Memᴰ.head refl) in
-    all_has ns ks r q (list_row k c) (row_listing ns c k z.0 z.1 g) (λ y m. b y (mathlib.Core.List.Memᴰ.tail m))
+    all_has ns r ks q (list_row k c) (row_listing ns c k z.0 z.1 g) (λ y m. b y (mathlib.Core.List.Memᴰ.tail m))
 
 -- a row of the cutset that is worth x
 pub record CutRow (items : List Item) (d : Diagram) (x : ℕ) (l : List ℕ) : Type 0 where
@@ -224,7 +223,7 @@ frontier_lemma items lower r₀ d x s hb ht f w q hn hd hx = go f.under f.tower 
         ⊎_elim (λ c. inl c)
         (λ z. let r = z.at_row in inr (record { row = r.row; lo_is = r.lo_is; hi_is = r.hi_is; exact = z.exact; worth = end_worth items _ x (f.ends r.row r.lo_is r.hi_is) r.worth }))
         (walk_down items lower d x s.hi hb ht hd hx q.exacts s q.deep refl _
-        (λ T m r u v nx k l dq h ex. layers_has d.nodes d.edges d.layers T m _ (start_listing d.nodes w.clean) r u v nx k l dq h ex)
+        (λ T m r u v nx k l dq h ex. layers_has d.nodes d.edges T d.layers m _ (start_listing d.nodes w.clean) r u v nx k l dq h ex)
         (more {U = coming d} {L = L} {ls = ks} a b st t) (λ T m. subst (λ (z : List Range). Memᴰ T z) (sym e) m) (omega arith) (inl (subst (λ (z : List Range). Memᴰ s z) e q.stored)))
 
 -- the layers from S down, and the one on it
@@ -256,7 +255,7 @@ last_layer_lemma items lower r₀ d x s hb ht f w le q hn hd hx =
     let bd : (r : ℕ) → Memᴰ r (rows_of s) → (r < length d.nodes) × ((node_at d.nodes r).exact ≡ true) = λ r k. let z = range_in s r k in (omega (arith, q.done), q.exacts r (omega arith)) in
     record {
       row = i.row;
-      in_cut = subst (λ (z : Cutset). Memᴰ i.row z.listed) (sym (last_cut d s le)) (all_has d.nodes (rows_of s) i.row (range_mem s i.row i.lo_is i.hi_is) (no_cutset d) (start_listing d.nodes w.clean) bd);
+      in_cut = subst (λ (z : Cutset). Memᴰ i.row z.listed) (sym (last_cut d s le)) (all_has d.nodes i.row (rows_of s) (range_mem s i.row i.lo_is i.hi_is) (no_cutset d) (start_listing d.nodes w.clean) bd);
       not_root = omega (arith, q.deep, i.lo_is);
       inside = omega (arith, q.done, i.hi_is);
       exact = q.exacts i.row i.hi_is;

@@ -51,13 +51,13 @@ pub record LeadsTo (items : List Item) (x : ℕ) (rs : List Record) : Type 0 whe
   pub worth : x ≤ worth_of items rec
   pub seen : x ≤ rec.bound
 
-drain_mem : (pre : List ℕ) (d : Diagram) (bv : ℕ) (rs : List ℕ) (r : ℕ) → Memᴰ r rs → (node_at d.nodes r).marked ≡ true → Memᴰ (drained_record pre d bv r) (drain_rows pre d bv rs)
+drain_mem : (pre : List ℕ) (d : Diagram) (bv : ℕ) (r : ℕ) (rs : List ℕ) → Memᴰ r rs → (node_at d.nodes r).marked ≡ true → Memᴰ (drained_record pre d bv r) (drain_rows pre d bv rs)
 unfolding drain_rows
-drain_mem pre d bv rs r (Memᴰ.head {x = q} {xs = qs} e) m = let m' : (node_at d.nodes q).marked ≡ true = rw (← e) m in rw m' (Memᴰ.head (ap (drained_record pre d bv) e))
-drain_mem pre d bv rs r (Memᴰ.tail {x = q} {xs = qs} e) m =
+drain_mem pre d bv r rs (Memᴰ.head {x = q} {xs = qs} e) m = let m' : (node_at d.nodes q).marked ≡ true = rw (← e) m in rw m' (Memᴰ.head (ap (drained_record pre d bv) e))
+drain_mem pre d bv r rs (Memᴰ.tail {x = q} {xs = qs} e) m =
     by_test (λ b. Memᴰ (drained_record pre d bv r) (cond b (drained_record pre d bv q ∷ drain_rows pre d bv qs) (drain_rows pre d bv qs))) (node_at d.nodes q).marked
-    (λ _. Memᴰ.tail (drain_mem pre d bv qs r e m))
-    (λ _. drain_mem pre d bv qs r e m)
+    (λ _. Memᴰ.tail (drain_mem pre d bv r qs e m))
+    (λ _. drain_mem pre d bv r qs e m)
 
 pub plain_val : (a b : Node) → plain a ≡ plain b → (a.value ≡ b.value) × (a.capacity ≡ b.capacity) × (a.depth ≡ b.depth) × (a.fast ≡ b.fast)
 unfolding plain
@@ -81,7 +81,7 @@ drain_worth items pre d e bv r x p ht hx n hb hv =
 -- a terminal is worth x
 pub top_is : (d : Diagram) (x : ℕ) → Ends x d → Tops d.nodes x (best_node d)
 unfolding best_node
-top_is d x e = tops_less d.nodes _ x _ e.worth (best_tops d.nodes (terminals d) e.row (terminal_mem d e.row e.lo_is e.hi_is))
+top_is d x e = tops_less d.nodes _ x _ e.worth (best_tops d.nodes e.row (terminals d) (terminal_mem d e.row e.lo_is e.hi_is))
 
 drained_at : (pre : List ℕ) (o : Outcome) (r : ℕ) → o.best ≡ at r → drained pre o ≡ drain_rows pre o.diagram (node_at o.diagram.nodes r).value o.cutset
 unfolding drained drain_for
@@ -128,14 +128,14 @@ module _ (items : List Item) (lower : ℕ) (r₀ : Node) (d : Diagram) (x : ℕ)
       let dw = drain_worth items pre d o.diagram v c.row x (rows_are c.row) ht c.worth c.noted (omega (arith, sh.bottom, c.worth)) (omega (arith, t.least)) in
       record {
         rec = drained_record pre o.diagram v c.row;
-        is_in = subst (λ (l : List Record). Memᴰ (drained_record pre o.diagram v c.row) l) (sym (drained_at pre o t.row (oi.0 ∙ t.is_row))) (drain_mem pre o.diagram v o.cutset c.row (subst (λ (l : List ℕ). Memᴰ c.row l) (sym oi.1) c.in_cut) mk);
+        is_in = subst (λ (l : List Record). Memᴰ (drained_record pre o.diagram v c.row) l) (sym (drained_at pre o t.row (oi.0 ∙ t.is_row))) (drain_mem pre o.diagram v c.row o.cutset (subst (λ (l : List ℕ). Memᴰ c.row l) (sym oi.1) c.in_cut) mk);
         worth = dw.0;
         seen = dw.1;
       }
 
   exact_leads : ExactEnd d x → Tops (outcome relaxing k d).diagram.nodes x (outcome relaxing k d).best_exact
   exact_leads e =
-      let q = tops_less d.nodes _ x _ e.worth (exact_tops d.nodes (terminals d) e.row (terminal_mem d e.row e.lo_is e.hi_is) e.exact) in
+      let q = tops_less d.nodes _ x _ e.worth (exact_tops d.nodes e.row (terminals d) (terminal_mem d e.row e.lo_is e.hi_is) e.exact) in
       tops_over k d listing x _ (rw (outcome_is k d).3 (cond_tops (exact_path relaxing d) d.nodes x _ _ (top_is d x ends) q))
 
   -- a squashed relaxed diagram: the best exact value is x at least, or a drained record leads to x
@@ -168,6 +168,6 @@ exact_ensures items r₀ k d x w ex e q =
     let t = top_is d x e in
     tops_over k d li x _ (subst (λ (g : Found). Tops d.nodes x g) (sym oi.3)
     (⊎_elim
-    (λ n. let u = never_is d.last n in cond_tops (exact_path relaxing d) d.nodes x _ _ t (tops_less d.nodes _ x _ e.worth (exact_tops d.nodes (terminals d) e.row (terminal_mem d e.row e.lo_is e.hi_is) (ex.before u e.row e.hi_is))))
+    (λ n. let u = never_is d.last n in cond_tops (exact_path relaxing d) d.nodes x _ _ t (tops_less d.nodes _ x _ e.worth (exact_tops d.nodes e.row (terminals d) (terminal_mem d e.row e.lo_is e.hi_is) (ex.before u e.row e.hi_is))))
     (λ n. rw n t)
     (or_true (never_squashed d.last) (exact_path relaxing d) (sym (outcome_exact k d) ∙ q))))

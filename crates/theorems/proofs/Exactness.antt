@@ -9,7 +9,6 @@ use native.Mathlib.Omega.{arith}
 use lib.ListN.{length, drop, length-set}
 use borrow.Author.Tests.{ltb-false}
 use Rattle.knapsack.specs.Items.{Item}
-use Rattle.diagram.specs.After6.{finished}
 use Rattle.diagram.specs.Node.{Node, node_at, update, fresh, with_deleted}
 use Rattle.diagram.specs.Record.{Record}
 use Rattle.diagram.specs.Rule1.{root_only}

@@ -11,7 +11,7 @@ use Rattle.diagram.specs.Record.{Record}
 use Rattle.diagram.specs.Rule1.{root_only, rooted}
 use Rattle.diagram.specs.Rule2.{ordered, store, store_empty, store_last, has_rows, expand_squashed, layer_step, grow, grown}
 use Rattle.diagram.specs.Rule5.{with_last, squash}
-use Rattle.diagram.specs.Rule6.{Squashed, layer}
+use Rattle.diagram.specs.Rule6.{Squashed}
 use Rattle.diagram.specs.Run.{Mode, Settings}
 use Rattle.diagram.specs.Tables.{Diagram, with_nodes, coming}
 use Rattle.theorems.proofs.Holds.{Holds, held, void, then_holds, need_holds, only_holds, holds_map, SquashHolds, settled, halts}

@@ -76,12 +76,12 @@ unfolding raise_parents
 edges_raised es b [] ns = raised_refl ns
 edges_raised es b (e ∷ l) ns = raised_trans ns _ _ (raise_raised _ ns _) (edges_raised es b l _)
 
-edges_show : (es : List Edge) (b : ℕ) (l : List ℕ) (e : ℕ) → Memᴰ e l → (ns : List Node) → (edge_at es e).from < length ns → Shows (sat_add b (mid + (edge_at es e).cost)) (edge_at es e).from (raise_parents es b l ns)
+edges_show : (es : List Edge) (b : ℕ) (e : ℕ) (l : List ℕ) → Memᴰ e l → (ns : List Node) → (edge_at es e).from < length ns → Shows (sat_add b (mid + (edge_at es e).cost)) (edge_at es e).from (raise_parents es b l ns)
 unfolding raise_parents
-edges_show es b l e (Memᴰ.head {x = k} {xs = ks} q) ns h =
+edges_show es b e l (Memᴰ.head {x = k} {xs = ks} q) ns h =
     rw q (shows_up _ _ _ _ (edges_raised es b ks (update (raise (sat_add b (mid + (edge_at es k).cost))) ns (edge_at es k).from)) (raise_shows _ ns _ (rw (← q) h)))
-edges_show es b l e (Memᴰ.tail {x = k} {xs = ks} m) ns h =
-    edges_show es b ks e m (update (raise (sat_add b (mid + (edge_at es k).cost))) ns (edge_at es k).from) (rw length-set h)
+edges_show es b e l (Memᴰ.tail {x = k} {xs = ks} m) ns h =
+    edges_show es b e ks m (update (raise (sat_add b (mid + (edge_at es k).cost))) ns (edge_at es k).from) (rw length-set h)
 
 row_raised : (t : Bool) (es : List Edge) (b : ℕ) (l : List ℕ) (ns : List Node) → Raised ns (cond t (raise_parents es b l ns) ns)
 row_raised true es b l ns = edges_raised es b l ns
@@ -97,16 +97,16 @@ sat_mono : (a b c : ℕ) → a ≤ b → sat_add a c ≤ sat_add b c
 unfolding sat_add
 sat_mono a b c h = omega arith
 
-rows_show : (es : List Edge) (rs : List ℕ) (r : ℕ) → Memᴰ r rs → (ns : List Node) → (node_at ns r).marked ≡ true → (e : ℕ) → e < length es → (edge_at es e).to ≡ r → (edge_at es e).from < length ns → Shows (sat_add (node_at ns r).bottom (mid + (edge_at es e).cost)) (edge_at es e).from (raise_rows es rs ns)
+rows_show : (es : List Edge) (r : ℕ) (rs : List ℕ) → Memᴰ r rs → (ns : List Node) → (node_at ns r).marked ≡ true → (e : ℕ) → e < length es → (edge_at es e).to ≡ r → (edge_at es e).from < length ns → Shows (sat_add (node_at ns r).bottom (mid + (edge_at es e).cost)) (edge_at es e).from (raise_rows es rs ns)
 unfolding raise_rows
-rows_show es rs r (Memᴰ.head {x = k} {xs = ks} q) ns m e l d h =
+rows_show es r rs (Memᴰ.head {x = k} {xs = ks} q) ns m e l d h =
     let m' : (node_at ns k).marked ≡ true = rw (← q) m in
-    rw m' (shows_up _ _ _ _ (rows_raised es ks (raise_parents es (node_at ns k).bottom (inbound es k) ns)) (rw q (edges_show es (node_at ns k).bottom (inbound es k) e (inbound_mem es k e l (d ∙ q)) ns h)))
-rows_show es rs r (Memᴰ.tail {x = k} {xs = ks} q) ns m e l d h =
+    rw m' (shows_up _ _ _ _ (rows_raised es ks (raise_parents es (node_at ns k).bottom (inbound es k) ns)) (rw q (edges_show es (node_at ns k).bottom e (inbound es k) (inbound_mem es k e l (d ∙ q)) ns h)))
+rows_show es r rs (Memᴰ.tail {x = k} {xs = ks} q) ns m e l d h =
     let g = row_raised (node_at ns k).marked es (node_at ns k).bottom (inbound es k) ns in
     let ms = cond (node_at ns k).marked (raise_parents es (node_at ns k).bottom (inbound es k) ns) ns in
     let h' : (edge_at es e).from < length ms = omega (arith, g.long) in
-    let s = rows_show es ks r q ms (g.marks r m) e l d h' in
+    let s = rows_show es r ks q ms (g.marks r m) e l d h' in
     record { is_marked = s.is_marked; bottom = omega (arith, s.bottom, sat_mono (node_at ns r).bottom (node_at ms r).bottom (mid + (edge_at es e).cost) (g.bots r)) }
 
 pub layers_raised : (es : List Edge) (ls : List Range) (ns : List Node) → Raised ns (raise_layers es ls ns)
@@ -154,13 +154,13 @@ ground_keeps (q ∷ qs) r ns s = ground_keeps qs r (update (marked_with mid) ns 
     })
     (λ t. rw (set_out ns q (marked_with mid (node_at ns q)) (ltb-false _ _ t)) s))
 
-ground_show : (rs : List ℕ) (r : ℕ) → Memᴰ r rs → (ns : List Node) → r < length ns → Shows mid r (ground_rows rs ns)
+ground_show : (r : ℕ) (rs : List ℕ) → Memᴰ r rs → (ns : List Node) → r < length ns → Shows mid r (ground_rows rs ns)
 unfolding ground_rows
-ground_show rs r (Memᴰ.head {x = k} {xs = ks} q) ns h =
+ground_show r rs (Memᴰ.head {x = k} {xs = ks} q) ns h =
     let f = ground_fields (node_at ns k) in
     let g = get_or-set_same ns k (marked_with mid (node_at ns k)) no_node (rw (← q) h) in
     ground_keeps ks r (update (marked_with mid) ns k) (rw q (record { is_marked = rw g f.1; bottom = rw g (omega (arith, f.2)) }))
-ground_show rs r (Memᴰ.tail {x = k} {xs = ks} q) ns h = ground_show ks r q (update (marked_with mid) ns k) (rw length-set h)
+ground_show r rs (Memᴰ.tail {x = k} {xs = ks} q) ns h = ground_show r ks q (update (marked_with mid) ns k) (rw length-set h)
 
 -- the rows of a layer show what their completions earn
 abbrev pub Good : List Item → ℕ → Diagram → Range → List Node → Type 0
@@ -179,17 +179,17 @@ good_below items lower d U L ns ht hl s k x y a b c e f =
     let w = (edge_at d.edges n.via).cost in
     let t = (edge_at d.edges n.via).to in
     let g = k t (y - w) n.above n.under n.live (omega (arith, n.gains)) (omega (arith, n.hands)) in
-    let z = rows_show d.edges (rows_of U) t (range_mem U t n.above n.under) ns g.is_marked n.via n.below refl (rw n.from (omega arith)) in
+    let z = rows_show d.edges t (rows_of U) (range_mem U t n.above n.under) ns g.is_marked n.via n.below refl (rw n.from (omega arith)) in
     let q = sat_two (node_at ns t).bottom w y g.bottom in
     let r = rw n.from at z in
     record { is_marked = r.is_marked; bottom = omega (arith, r.bottom) }
 
-pub good_all : (items : List Item) (lower : ℕ) (d : Diagram) (ns : List Node) → lower < top → {U : Range} {ls : List Range} → Tower items lower d (U ∷ ls) → U.hi ≤ length ns → U.lo ≤ U.hi → Good items lower d U ns → (S : Range) → Memᴰ S (U ∷ ls) → Good items lower d S (raise_layers d.edges (U ∷ ls) ns)
+pub good_all : (items : List Item) (lower : ℕ) (d : Diagram) (S : Range) (ns : List Node) → lower < top → {U : Range} {ls : List Range} → Tower items lower d (U ∷ ls) → U.hi ≤ length ns → U.lo ≤ U.hi → Good items lower d U ns → Memᴰ S (U ∷ ls) → Good items lower d S (raise_layers d.edges (U ∷ ls) ns)
 unfolding raise_layers
-good_all items lower d ns ht t hl hu g S (Memᴰ.head {x = U} {xs = ls} q) = rw q (good_up items lower d U ns _ (layers_raised d.edges (U ∷ ls) ns) g)
-good_all items lower d ns ht (root a b) hl hu g S (Memᴰ.tail m) = absurd (Memᴰ.not-nil m)
-good_all items lower d ns ht (more {U = U} {L = L} a b s t) hl hu g S (Memᴰ.tail m) =
-    good_all items lower d (raise_rows d.edges (rows_of U) ns) ht t (rw (rows_raised d.edges (rows_of U) ns).long (omega arith)) (up t) (good_below items lower d U L ns ht (omega arith) s g) S m
+good_all items lower d S ns ht t hl hu g (Memᴰ.head {x = U} {xs = ls} q) = rw q (good_up items lower d U ns _ (layers_raised d.edges (U ∷ ls) ns) g)
+good_all items lower d S ns ht (root a b) hl hu g (Memᴰ.tail m) = absurd (Memᴰ.not-nil m)
+good_all items lower d S ns ht (more {U = U} {L = L} a b s t) hl hu g (Memᴰ.tail m) =
+    good_all items lower d S (raise_rows d.edges (rows_of U) ns) ht t (rw (rows_raised d.edges (rows_of U) ns).long (omega arith)) (up t) (good_below items lower d U L ns ht (omega arith) s g) m
   where
     up : {L : Range} {ls : List Range} → Tower items lower d (L ∷ ls) → L.lo ≤ L.hi
     up (root a b) = omega arith
@@ -227,8 +227,8 @@ local_bounds_lem items lower r₀ d ns s ht f e h hl S m =
     let g₀ : Good items lower d (coming d) (ground_rows (rows_of (coming d)) ns) = λ x y a b c u v.
     let q = f.ends x a b in
     let z : best (drop (node_at d.nodes x).depth items) (node_at d.nodes x).capacity ≡ 0 = rw q (best_no_items _) in
-    let w = ground_show (rows_of (coming d)) x (range_mem (coming d) x a b) ns (omega arith) in
+    let w = ground_show x (rows_of (coming d)) (range_mem (coming d) x a b) ns (omega arith) in
     record { is_marked = w.is_marked; bottom = omega (arith, w.bottom) } in
     let r = (ground_dressed (rows_of (coming d)) ns).long in
-    let k = good_all items lower d (ground_rows (rows_of (coming d)) ns) ht f.tower (omega arith) (omega arith) g₀ S (subst (λ (l : List Range). Memᴰ S l) st m) in
+    let k = good_all items lower d S (ground_rows (rows_of (coming d)) ns) ht f.tower (omega arith) (omega arith) g₀ (subst (λ (l : List Range). Memᴰ S l) st m) in
     subst (λ (z : List Node). Good items lower d S z) (sym (bounds_are d ns s (coming d) f.under e st)) k

@@ -7,7 +7,6 @@ use Prim.Native.Nat.{ℕ, ◌≤◌, ◌<◌}
 use native.Mathlib.Omega.{arith}
 use lib.ListN.{length, length-append, get_or-append, length-set}
 use lib.Seq.{get_or-set_same, get_or-set_other, get_or-append_seam}
-use Rattle.knapsack.specs.Best.{best}
 use Rattle.diagram.specs.Node.{Node, Edge, no_node, no_edge, node_at, edge_at, update, with_deleted}
 use Rattle.diagram.specs.Rule4.{handed, landed, push_edge, add_edge}
 use Rattle.diagram.specs.Rule6.{copy_edges, merge_all}
@@ -170,23 +169,23 @@ record Made (m : ℕ) (rest : List ℕ) (s c v : ℕ) (d e : Diagram) : Type 0 w
   copied : Copied m s c v e
 
 -- each edge of the list, from another row than m, has its copy
-copy_made : (opts : Settings) (m : ℕ) (rest es : List ℕ) (e : ℕ) → Memᴰ e es → (d : Diagram) (s c : ℕ) → d.start ≤ m → m < length d.nodes → e < length d.edges → (edge_at d.edges e).from ≡ s → (edge_at d.edges e).cost ≡ c → s < d.start → Ending rest es d → Holds (Made m rest s c (handed d.nodes s c) d) (copy_edges opts m es d)
+copy_made : (opts : Settings) (m : ℕ) (rest : List ℕ) (e : ℕ) (es : List ℕ) → Memᴰ e es → (d : Diagram) (s : ℕ) (c : ℕ) → d.start ≤ m → m < length d.nodes → e < length d.edges → (edge_at d.edges e).from ≡ s → (edge_at d.edges e).cost ≡ c → s < d.start → Ending rest es d → Holds (Made m rest s c (handed d.nodes s c) d) (copy_edges opts m es d)
 unfolding copy_edges add_edge
-copy_made opts m rest es e (Memᴰ.head {x = k} {xs = ks} z) d s c l h b q u o n =
+copy_made opts m rest e es (Memᴰ.head {x = k} {xs = ks} z) d s c l h b q u o n =
     let zz = n k (Memᴰ.head refl) in
     let q' : (edge_at d.edges k).from ≡ s = rw (← z) q in
     let u' : (edge_at d.edges k).cost ≡ c = rw (← z) u in
     then_holds _ (need_holds {P = Made m rest s c (handed d.nodes s c) d} _ _ _ _ (λ _. held (record { trail = mstep mhere (copy _ _ _ k zz.0 refl zz.1 l h); copied = rw (q', u') (push_copied m s _ c d h) })))
     (λ f t. let g = merging_merged m rest t.trail in
     holds_map (λ x y. record { trail = merging_trans t.trail y; copied = copied_merged m rest s c _ f x (merging_merged m rest y) t.copied }) (copy_trail opts m rest ks f (omega arith) (omega arith) (ending_merged m rest k ks d f g n)))
-copy_made opts m rest es e (Memᴰ.tail {x = k} {xs = ks} z) d s c l h b q u o n =
+copy_made opts m rest e es (Memᴰ.tail {x = k} {xs = ks} z) d s c l h b q u o n =
     let zz = n k (Memᴰ.head refl) in
     then_holds _ (need_holds {P = MergeTrail m rest d} _ _ _ _ (λ _. held (mstep mhere (copy _ _ _ k zz.0 refl zz.1 l h))))
     (λ f t. let g = merging_merged m rest t in
     let w = g.edges_are e b in
     let v = val_handed s c d f (ap (λ (n : Node). n.value) (g.old s o)) in
     holds_map (λ x y. record { trail = merging_trans t y.trail; copied = rw (← v) y.copied })
-    (copy_made opts m rest ks e z f s c (omega arith) (omega arith) (omega arith) (rw w q) (rw w u) (omega arith) (ending_merged m rest k ks d f g n)))
+    (copy_made opts m rest e ks z f s c (omega arith) (omega arith) (omega arith) (rw w q) (rw w u) (omega arith) (ending_merged m rest k ks d f g n)))
 
 -- ---- merges
 
@@ -221,9 +220,9 @@ flag_flags : (d : Diagram) (r : ℕ) → r < length d.nodes → (node_at (with_n
 unfolding with_nodes
 flag_flags d r h = rw (get_or-set_same d.nodes r (with_deleted true (node_at d.nodes r)) no_node h) (del_fields _).1
 
-pub merge_flags : (opts : Settings) (m : ℕ) (rest rs : List ℕ) (r : ℕ) → Memᴰ r rs → (d : Diagram) → d.start ≤ m → m < length d.nodes → Inside d m rs → Part rs rest → Holds (λ e. (node_at e.nodes r).deleted ≡ true) (merge_all opts m rs d)
+pub merge_flags : (opts : Settings) (m : ℕ) (rest : List ℕ) (r : ℕ) (rs : List ℕ) → Memᴰ r rs → (d : Diagram) → d.start ≤ m → m < length d.nodes → Inside d m rs → Part rs rest → Holds (λ e. (node_at e.nodes r).deleted ≡ true) (merge_all opts m rs d)
 unfolding merge_all
-merge_flags opts m rest rs r (Memᴰ.head {x = q} {xs = qs} w) d l h i p =
+merge_flags opts m rest r rs (Memᴰ.head {x = q} {xs = qs} w) d l h i p =
     let z = i q (Memᴰ.head refl) in
     let a : MergeTrail m rest d (with_nodes d (update (with_deleted true) d.nodes q)) = mstep mhere (flag q (p q (Memᴰ.head refl)) z.0 z.1 z.2) in
     let g = merging_merged m rest a in
@@ -232,27 +231,27 @@ merge_flags opts m rest rs r (Memᴰ.head {x = q} {xs = qs} w) d l h i p =
     (λ f t. let g₁ = merging_merged m rest t in
     let g' = merging_merged m rest (merging_trans a t) in
     holds_map (λ x y. rw w ((merging_merged m rest y).kept q (g₁.kept q k))) (merge_trail opts m rest qs f (omega arith) (omega arith) (inside_merged m rest q qs d f g' i) (λ q k. p q (Memᴰ.tail k))))
-merge_flags opts m rest rs r (Memᴰ.tail {x = q} {xs = qs} w) d l h i p =
+merge_flags opts m rest r rs (Memᴰ.tail {x = q} {xs = qs} w) d l h i p =
     let z = i q (Memᴰ.head refl) in
     let a : MergeTrail m rest d (with_nodes d (update (with_deleted true) d.nodes q)) = mstep mhere (flag q (p q (Memᴰ.head refl)) z.0 z.1 z.2) in
     let g = merging_merged m rest a in
     then_holds _ (copy_trail opts m rest (inbound d.edges q) (with_nodes d (update (with_deleted true) d.nodes q)) (omega arith) (omega arith) (edges_ending m rest q d _ (p q (Memᴰ.head refl)) g))
     (λ f t. let g' = merging_merged m rest (merging_trans a t) in
-    merge_flags opts m rest qs r w f (omega arith) (omega arith) (inside_merged m rest q qs d f g' i) (λ q k. p q (Memᴰ.tail k)))
+    merge_flags opts m rest r qs w f (omega arith) (omega arith) (inside_merged m rest q qs d f g' i) (λ q k. p q (Memᴰ.tail k)))
 
-pub merge_copies : (opts : Settings) (m : ℕ) (rest rs : List ℕ) (y : ℕ) → Memᴰ y rs → (e : ℕ) (d : Diagram) (s c : ℕ) → (edge_at d.edges e).to ≡ y → d.start ≤ m → m < length d.nodes → Inside d m rs → Part rs rest → e < length d.edges → (edge_at d.edges e).from ≡ s → (edge_at d.edges e).cost ≡ c → s < d.start → Holds (Copied m s c (handed d.nodes s c)) (merge_all opts m rs d)
+pub merge_copies : (opts : Settings) (m : ℕ) (rest : List ℕ) (y : ℕ) (rs : List ℕ) → Memᴰ y rs → (e : ℕ) (d : Diagram) (s : ℕ) (c : ℕ) → (edge_at d.edges e).to ≡ y → d.start ≤ m → m < length d.nodes → Inside d m rs → Part rs rest → e < length d.edges → (edge_at d.edges e).from ≡ s → (edge_at d.edges e).cost ≡ c → s < d.start → Holds (Copied m s c (handed d.nodes s c)) (merge_all opts m rs d)
 unfolding merge_all
-merge_copies opts m rest rs y (Memᴰ.head {x = q} {xs = qs} w) e d s c yq l h i p b u v o =
+merge_copies opts m rest y rs (Memᴰ.head {x = q} {xs = qs} w) e d s c yq l h i p b u v o =
     let z = i q (Memᴰ.head refl) in
     let d₁ = with_nodes d (update (with_deleted true) d.nodes q) in
     let a : MergeTrail m rest d d₁ = mstep mhere (flag q (p q (Memᴰ.head refl)) z.0 z.1 z.2) in
     let g = merging_merged m rest a in
     let ee = g.edges_are e b in
     let vh = val_handed s c d d₁ (ap (λ (n : Node). n.value) (g.old s o)) in
-    then_holds _ (copy_made opts m rest (inbound d.edges q) e (inbound_mem d.edges q e b (yq ∙ w)) d₁ s c (omega arith) (omega arith) (omega arith) (rw ee u) (rw ee v) (omega arith) (edges_ending m rest q d d₁ (p q (Memᴰ.head refl)) g))
+    then_holds _ (copy_made opts m rest e (inbound d.edges q) (inbound_mem d.edges q e b (yq ∙ w)) d₁ s c (omega arith) (omega arith) (omega arith) (rw ee u) (rw ee v) (omega arith) (edges_ending m rest q d d₁ (p q (Memᴰ.head refl)) g))
     (λ f t. let g' = merging_merged m rest (merging_trans a t.trail) in
     holds_map (λ x y. rw (← vh) (copied_merged m rest s c _ f x (merging_merged m rest y) t.copied)) (merge_trail opts m rest qs f (omega arith) (omega arith) (inside_merged m rest q qs d f g' i) (λ q k. p q (Memᴰ.tail k))))
-merge_copies opts m rest rs y (Memᴰ.tail {x = q} {xs = qs} w) e d s c yq l h i p b u v o =
+merge_copies opts m rest y rs (Memᴰ.tail {x = q} {xs = qs} w) e d s c yq l h i p b u v o =
     let z = i q (Memᴰ.head refl) in
     let d₁ = with_nodes d (update (with_deleted true) d.nodes q) in
     let a : MergeTrail m rest d d₁ = mstep mhere (flag q (p q (Memᴰ.head refl)) z.0 z.1 z.2) in
@@ -261,4 +260,4 @@ merge_copies opts m rest rs y (Memᴰ.tail {x = q} {xs = qs} w) e d s c yq l h i
     (λ f t. let g' = merging_merged m rest (merging_trans a t) in
     let ee = g'.edges_are e b in
     let vh = val_handed s c d f (ap (λ (n : Node). n.value) (g'.old s o)) in
-    holds_map (λ x k. rw (← vh) k) (merge_copies opts m rest qs y w e f s c (rw ee yq) (omega arith) (omega arith) (inside_merged m rest q qs d f g' i) (λ q k. p q (Memᴰ.tail k)) (omega arith) (rw ee u) (rw ee v) (omega arith)))
+    holds_map (λ x k. rw (← vh) k) (merge_copies opts m rest y qs w e f s c (rw ee yq) (omega arith) (omega arith) (inside_merged m rest q qs d f g' i) (λ q k. p q (Memᴰ.tail k)) (omega arith) (rw ee u) (rw ee v) (omega arith)))

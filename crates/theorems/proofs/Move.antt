@@ -10,7 +10,6 @@ use lib.ListN.{length, length-append, get_or-append, drop, length-set}
 use lib.Seq.{get_or-set_same, get_or-set_other}
 use borrow.Author.Tests.{leb-true}
 use Rattle.words.specs.I64.{mid}
-use Rattle.knapsack.specs.Best.{best}
 use Rattle.knapsack.specs.FastBound.{fast_bound}
 use Rattle.knapsack.specs.Items.{Item, counted, takes, skips}
 use Rattle.knapsack.proofs.Cases.{by_test}

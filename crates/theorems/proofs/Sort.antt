@@ -54,6 +54,7 @@ perm_apart (Permᴰ.swap e f) (apart_next n (apart_next n' a)) = apart_next (λ 
 perm_apart (Permᴰ.trans d₁ d₂) a = perm_apart d₂ (perm_apart d₁ a)
 
 pub apart_parts : (a b : List ℕ) (x : ℕ) → Apart (a ++ b) → Memᴰ x a → Memᴰ x b → ⊥
+apart_parts [] b x p k m = elim k [ ]
 apart_parts (y ∷ a) b x (apart_next n p) (Memᴰ.head e) m = n (Memᴰ.append_right a (rw (← e) m))
 apart_parts (y ∷ a) b x (apart_next n p) (Memᴰ.tail k) m = apart_parts a b x p k m
 

@@ -32,7 +32,7 @@ use Rattle.theorems.proofs.Arc.{Coming, handed_is, val_handed}
 use Rattle.theorems.proofs.Merge.{MergeMove, flag, copy, merging_keeps, Merged, merge_move_merged}
 use Rattle.theorems.proofs.Squash.{merged_fields, Merging, Way}
 use Rattle.theorems.proofs.Growth.{Ready, Step, step_keeps, squash_keeps, Ended, through, died, grown_keeps}
-use Rattle.theorems.proofs.Tower.{root, more, root_row}
+use Rattle.theorems.proofs.Tower.{root_row}
 use Rattle.theorems.proofs.Links.{Wired, node_is, node_was, WiredMerge, merge_wired, last_wired, last_fits, merged_wired, step_wired, root_wired}
 
 -- what counts of a row here

@@ -13,7 +13,6 @@ use lib.ListN.{length, length-append, get_or-append, drop, take, length-set, len
 use lib.Seq.{get_or-set_same, get_or-append_seam, set_out}
 use borrow.Author.Tests.{eqb-true, leb-true, leb-false, ltb-true, ltb-false}
 use Rattle.knapsack.proofs.Cases.{by_test}
-use Rattle.diagram.specs.After6.{run}
 use Rattle.diagram.specs.Node.{Node, Edge, no_node, node_at, edge_at, update, fresh, with_deleted, as_relaxed}
 use Rattle.diagram.specs.Rule2.{ordered}
 use Rattle.diagram.specs.Rule4.{handed, push_node}
@@ -67,10 +66,10 @@ parted d before n =
     }
 
 -- the largest capacity is one of theirs and is no less than any
-merged_least : (ns : List Node) (rs : List ℕ) (r : ℕ) → Memᴰ r rs → (node_at ns r).capacity ≤ merged_capacity ns rs
+merged_least : (ns : List Node) (r : ℕ) (rs : List ℕ) → Memᴰ r rs → (node_at ns r).capacity ≤ merged_capacity ns rs
 unfolding merged_capacity
-merged_least ns rs r (Memᴰ.head {x = q} {xs = qs} e) = rw e (omega arith)
-merged_least ns rs r (Memᴰ.tail {x = q} {xs = qs} m) = omega (arith, merged_least ns qs r m)
+merged_least ns r rs (Memᴰ.head {x = q} {xs = qs} e) = rw e (omega arith)
+merged_least ns r rs (Memᴰ.tail {x = q} {xs = qs} m) = omega (arith, merged_least ns r qs m)
 
 record HasCap (ns : List Node) (rs : List ℕ) (c : ℕ) : Type 0 where
   row : ℕ
@@ -251,8 +250,8 @@ merge_settled md opts k c dp kept rest d g sl pt dk mo =
     let ins : Inside d₁ (length d.nodes) rest = λ r i. let z = pt.rest_in r i in (omega arith, omega arith, λ q. omega arith) in
     open_run md k c dp kept rest d g sl pt dk mo (merge_all opts (length d.nodes) rest d₁)
     (merge_trail opts (length d.nodes) rest rest d₁ (omega arith) (omega arith) ins (λ r i. i))
-    (λ r i. merge_flags opts (length d.nodes) rest rest r i d₁ (omega arith) (omega arith) ins (λ r i. i))
-    (λ x s c' i b u v o. merge_copies opts (length d.nodes) rest rest _ i x d₁ s c' refl (omega arith) (omega arith) ins (λ r i. i) b u v o)
+    (λ r i. merge_flags opts (length d.nodes) rest r rest i d₁ (omega arith) (omega arith) ins (λ r i. i))
+    (λ x s c' i b u v o. merge_copies opts (length d.nodes) rest _ rest i x d₁ s c' refl (omega arith) (omega arith) ins (λ r i. i) b u v o)
 
 -- the kept twin never occurs, as the capacities of a layer differ before its squash
 pub no_twin : (k : ℕ) (kept : List ℕ) (q : ℕ) (qs : List ℕ) (d : Diagram) (m : ℕ) → Coming k d → Parted d kept (q ∷ qs) → twin_of d.nodes (merged_capacity d.nodes (q ∷ qs)) kept ≡ at m → ⊥
@@ -271,7 +270,7 @@ unfolding merge_into
 into_settled (at m) md opts k kept q qs d g sl pt e = absurd (no_twin k kept q qs d m g pt e)
 into_settled nowhere md opts k kept q qs d g sl pt e =
     let z = pt.rest_in q (Memᴰ.head refl) in
-    squash_need_holds _ _ _ _ (squash_need_holds _ _ _ _ (merge_settled md opts k (merged_capacity d.nodes (q ∷ qs)) (node_at d.nodes q).depth kept (q ∷ qs) d g sl pt (g.deps q z.0 z.1) (λ r i. merged_least d.nodes (q ∷ qs) r i)))
+    squash_need_holds _ _ _ _ (squash_need_holds _ _ _ _ (merge_settled md opts k (merged_capacity d.nodes (q ∷ qs)) (node_at d.nodes q).depth kept (q ∷ qs) d g sl pt (g.deps q z.0 z.1) (λ r i. merged_least d.nodes r (q ∷ qs) i)))
 
 relax_parted : (md : Mode) (opts : Settings) (k : ℕ) (kept rest : List ℕ) (d : Diagram) → 0 < length rest → Coming k d → d.start ≤ length d.nodes → Parted d kept rest
     → SquashHolds (λ e l. Settled md k d e l × Merging k d e) (merge_into (twin_of d.nodes (merged_capacity d.nodes rest) kept) opts (merged_capacity d.nodes rest) kept rest d)
@@ -327,9 +326,9 @@ delete_trail rest (r ∷ rs) d p b =
     let t = delete_trail rest rs d₁ (λ q m. p q (Memᴰ.tail m)) (λ q m. let w = b q m in (w.0, omega arith)) in
     merging_trans (mstep mhere (flag r i z.0 z.1 (λ e. omega arith))) (subst (λ (n : ℕ). MergeTrail n rest d₁ (with_nodes d₁ (delete_all d₁.nodes rs))) ln t)
 
-delete_flags : (rs : List ℕ) (r : ℕ) → Memᴰ r rs → (ns : List Node) → r < length ns → (node_at (delete_all ns rs) r).deleted ≡ true
+delete_flags : (r : ℕ) (rs : List ℕ) → Memᴰ r rs → (ns : List Node) → r < length ns → (node_at (delete_all ns rs) r).deleted ≡ true
 unfolding delete_all with_deleted
-delete_flags rs r (Memᴰ.head {x = q} {xs = qs} e) ns h = stays_flagged qs (update (with_deleted true) ns q) (rw (e, get_or-set_same ns q (with_deleted true (node_at ns q)) no_node (rw (← e) h)))
+delete_flags r rs (Memᴰ.head {x = q} {xs = qs} e) ns h = stays_flagged qs (update (with_deleted true) ns q) (rw (e, get_or-set_same ns q (with_deleted true (node_at ns q)) no_node (rw (← e) h)))
   where
     stays_flagged : (rs : List ℕ) (ns : List Node) → (node_at ns r).deleted ≡ true → (node_at (delete_all ns rs) r).deleted ≡ true
     stays_flagged [] ns f = f
@@ -337,7 +336,7 @@ delete_flags rs r (Memᴰ.head {x = q} {xs = qs} e) ns h = stays_flagged qs (upd
         by_test (λ _. (node_at (delete_all (update (with_deleted true) ns q) qs) r).deleted ≡ true) (ltb q (length ns))
         (λ t. stays_flagged qs (update (with_deleted true) ns q) (update_at (λ n. n.deleted ≡ true) (with_deleted true) ns q r (ltb-true _ _ t) (λ _. refl) (λ _. f)))
         (λ t. stays_flagged qs (update (with_deleted true) ns q) (rw (set_out ns q (with_deleted true (node_at ns q)) (ltb-false _ _ t)) f))
-delete_flags rs r (Memᴰ.tail {x = q} {xs = qs} m) ns h = delete_flags qs r m (update (with_deleted true) ns q) (rw length-set h)
+delete_flags r rs (Memᴰ.tail {x = q} {xs = qs} m) ns h = delete_flags r qs m (update (with_deleted true) ns q) (rw length-set h)
 
 restrict_settled : (opts : Settings) (k : ℕ) (kept rest : List ℕ) (d : Diagram) → Coming k d → Parted d kept rest → Settled restricted k d (with_nodes d (delete_all d.nodes rest)) kept
 unfolding with_nodes
@@ -353,7 +352,7 @@ restrict_settled opts k kept rest d g pt =
       edges_are = λ i h. refl;
       deps = λ r l h. let b : r < length d.nodes = omega (arith, M.long) in bare_dep _ _ (M.others r (λ e. omega arith)) ∙ g.deps r l b;
       within = λ r m. let z = pt.kept_in r m in (z.0, omega (arith, M.long));
-      lives = λ r l h f. ⊎_elim (λ a. a) (λ b. let w = delete_flags rest r b d.nodes (pt.rest_in r b).1 in let z : ◌≡◌ {A = ℕ} 0 1 = cc in absurd (omega arith)) (pt.covers r l (omega (arith, M.long)));
+      lives = λ r l h f. ⊎_elim (λ a. a) (λ b. let w = delete_flags r rest b d.nodes (pt.rest_in r b).1 in let z : ◌≡◌ {A = ℕ} 0 1 = cc in absurd (omega arith)) (pt.covers r l (omega (arith, M.long)));
       arcs = λ fm. absurd (fm refl);
     }
 

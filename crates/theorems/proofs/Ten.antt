@@ -22,7 +22,6 @@ use Rattle.diagram.specs.Run.{Mode, exactly, restricted, relaxing, Settings, Run
 use Rattle.diagram.specs.Tables.{Range, Diagram, Found, at, nowhere, with_nodes, coming, inbound}
 use Rattle.theorems.proofs.Bool.{and_true, either_false}
 use Rattle.theorems.proofs.Sort.{ordered_length}
-use Rattle.theorems.proofs.Layers.{first}
 
 -- P of the tables where the run goes on; where it stopped, the number isn't 10
 pub data Safe (P : Diagram → Type 0) : Run → Type 0 where

@@ -53,18 +53,18 @@ better_old ns r v (at q) t =
     (λ e. record { row = r; is_row = refl; least = le_trans h (ahead ns r q e) })
     (λ e. record { row = q; is_row = refl; least = h })
 
-pub best_tops : (ns : List Node) (rs : List ℕ) (r : ℕ) → Memᴰ r rs → Tops ns (node_at ns r).value (best_of (λ n. true) ns rs)
+pub best_tops : (ns : List Node) (r : ℕ) (rs : List ℕ) → Memᴰ r rs → Tops ns (node_at ns r).value (best_of (λ n. true) ns rs)
 unfolding best_of
-best_tops ns rs r (Memᴰ.head {x = q} {xs = rest} e) = rw e (better_new ns q (best_of (λ n. true) ns rest))
-best_tops ns rs r (Memᴰ.tail {x = q} {xs = rest} m) = better_old ns q (node_at ns r).value (best_of (λ n. true) ns rest) (best_tops ns rest r m)
+best_tops ns r rs (Memᴰ.head {x = q} {xs = rest} e) = rw e (better_new ns q (best_of (λ n. true) ns rest))
+best_tops ns r rs (Memᴰ.tail {x = q} {xs = rest} m) = better_old ns q (node_at ns r).value (best_of (λ n. true) ns rest) (best_tops ns r rest m)
 
-pub exact_tops : (ns : List Node) (rs : List ℕ) (r : ℕ) → Memᴰ r rs → (node_at ns r).exact ≡ true → Tops ns (node_at ns r).value (best_of (λ n. n.exact) ns rs)
+pub exact_tops : (ns : List Node) (r : ℕ) (rs : List ℕ) → Memᴰ r rs → (node_at ns r).exact ≡ true → Tops ns (node_at ns r).value (best_of (λ n. n.exact) ns rs)
 unfolding best_of
-exact_tops ns rs r (Memᴰ.head {x = q} {xs = rest} e) x = let x' : (node_at ns q).exact ≡ true = rw (← e) x in rw (x', e) (better_new ns q (best_of (λ n. n.exact) ns rest))
-exact_tops ns rs r (Memᴰ.tail {x = q} {xs = rest} m) x =
+exact_tops ns r rs (Memᴰ.head {x = q} {xs = rest} e) x = let x' : (node_at ns q).exact ≡ true = rw (← e) x in rw (x', e) (better_new ns q (best_of (λ n. n.exact) ns rest))
+exact_tops ns r rs (Memᴰ.tail {x = q} {xs = rest} m) x =
     by_test (λ b. Tops ns (node_at ns r).value (cond b (better ns q (best_of (λ n. n.exact) ns rest)) (best_of (λ n. n.exact) ns rest))) (node_at ns q).exact
-    (λ _. better_old ns q (node_at ns r).value (best_of (λ n. n.exact) ns rest) (exact_tops ns rest r m x))
-    (λ _. exact_tops ns rest r m x)
+    (λ _. better_old ns q (node_at ns r).value (best_of (λ n. n.exact) ns rest) (exact_tops ns r rest m x))
+    (λ _. exact_tops ns r rest m x)
 
 pub tops_less : (ns : List Node) (v w : ℕ) (f : Found) → w ≤ v → Tops ns v f → Tops ns w f
 tops_less ns v w f h t = record { row = t.row; is_row = t.is_row; least = omega (arith, t.least) }

@@ -5,9 +5,8 @@ use mathlib.Core.List.{List, [], ◌∷◌}
 use Prim.Native.Nat.{ℕ, suc, ◌+◌, ◌≤◌, ◌<◌}
 use native.Mathlib.Omega.{arith}
 use lib.Dec.{ltb}
-use lib.ListN.{length, drop, take}
+use lib.ListN.{length, drop}
 use borrow.Author.Tests.{ltb-false}
-use Rattle.words.specs.I64.{top}
 use Rattle.knapsack.specs.Items.{Item}
 use Rattle.diagram.specs.Node.{Node, Edge, node_at, edge_at, fresh}
 use Rattle.diagram.specs.Record.{Record}

@@ -1,4 +1,6 @@
 // Numbers of i64 in 64-bit words of a table: to a word and back, the saturating sum of two words, the larger and the smaller one; and the tests && and || as calls.
+#![tactic(auto)]
+
 ghost use Rattle.std.specs.Prelude.{◌≡◌, ◌&&◌, ◌||◌, ◌+◌, min, max};
 ghost use Rattle.words.specs.I64.{mid, word, number, sat_add};
 
