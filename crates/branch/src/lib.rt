@@ -1,4 +1,6 @@
 // `_branch_on` of clean.rs: the child of a node by one decision, new or already in the coming layer, with the edge to it.
+#![tactic(auto)]
+
 ghost use Rattle.std.specs.Prelude.{◌≡◌, cond, ◌+◌, ◌*◌, ◌<◌, ◌≤◌, length};
 ghost use Rattle.diagram.specs.Node.{fresh};
 ghost use Rattle.diagram.specs.Rule4.{receive};
@@ -12,34 +14,34 @@ use rows::{Edge, EdgeId, Link, Node, NodeId};
 pub const LAYER_ROOM: usize = 1024;
 
 // How many rows of each table are written, and how many are lent.
-#[derive(Drop)]
+#[derive(Clone, Copy)]
 pub struct Counts {
     pub nodes: usize,
     pub edges: usize,
 }
 
-#[derive(Drop)]
+#[derive(Clone, Copy)]
 pub struct Rooms {
     pub nodes: usize,
     pub edges: usize,
 }
 
 // A step of the run: it goes on, or it stops at a refusal's number; with the rows written so far.
-#[derive(Drop)]
+#[derive(Clone, Copy)]
 pub enum Step {
     Going(Counts),
     Stopped(u64, Counts),
 }
 
 // A row of the coming layer, counted from its first, or none.
-#[derive(Drop)]
+#[derive(Clone, Copy)]
 enum Found {
     At(usize),
     Nothing,
 }
 
 // What a child is told of its parent: its row, its exactness, and the value that it hands over.
-#[derive(Drop)]
+#[derive(Clone, Copy)]
 struct Parent {
     id: NodeId,
     value: u64,
@@ -47,7 +49,7 @@ struct Parent {
 }
 
 // A decision with its cost, and the child's capacity and depth.
-#[derive(Drop)]
+#[derive(Clone, Copy)]
 pub struct Branch {
     pub decision: u64,
     pub cost: u64,

@@ -1,4 +1,6 @@
 // The public call `compile`: refusals 1 to 9, then a record's diagram grown and finished in the lent tables, its records drained into the lent list.
+#![tactic(auto)]
+
 ghost use Rattle.std.specs.Prelude.{◌≡◌, ◌≤◌, length};
 ghost use Rattle.std.proofs.Math.Option.{none};
 ghost use Rattle.diagram.specs.Record.{padded};
@@ -16,7 +18,7 @@ use layers::Layers;
 use refusals::Verdict;
 
 // What a compile is asked beside weights, profits and the record's path: the page and how to compile it, then the record. No run reads the record's bound.
-#[derive(Drop)]
+#[derive(Clone, Copy)]
 pub struct Request {
     pub page: u64,
     pub width: u64,
@@ -30,7 +32,7 @@ pub struct Request {
 }
 
 // What a compile answers. 'A refusing compile gives its number alone': all else is then false, missing or 0.
-#[derive(Drop)]
+#[derive(Clone, Copy)]
 pub struct Answer {
     pub verdict: Verdict,
     pub exact: bool,

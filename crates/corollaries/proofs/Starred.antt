@@ -39,6 +39,7 @@ computed = refl
 
 -- each of its rows
 map_at : (ks : List Case) → map seen_of ks ≡ map wanted ks → (k : Case) → Memᴰ k ks → seen_of k ≡ wanted k
+map_at [] e k h = elim h [ ]
 map_at (x ∷ ks) e k (Memᴰ.head h) = let z : seen_of x ≡ wanted x = cc in rw h z
 map_at (x ∷ ks) e k (Memᴰ.tail h) = let z : map seen_of ks ≡ map wanted ks = cc in map_at ks z k h
 

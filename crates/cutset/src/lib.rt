@@ -1,4 +1,6 @@
 // The cutset of clean.rs, flagged and counted, and the records that it drains into a lent list.
+#![tactic(auto)]
+
 ghost use Rattle.std.specs.Prelude.{◌≡◌, ◌+◌, ◌-◌, ◌*◌, ◌<◌, ◌≤◌, length};
 ghost use Rattle.diagram.specs.After4.{lastExactLayer};
 ghost use Rattle.diagram.specs.After6.{drained_bound};
@@ -17,7 +19,7 @@ use rows::{EdgeId, Link, Node, NodeId};
 
 // What a traversal is asked: how many records the list has room for, the run's best value, and the path, with its length, of the
 // record that was compiled. A traversal without room flags and counts.
-#[derive(Drop)]
+#[derive(Clone, Copy)]
 pub struct Wanted {
     pub room: usize,
     pub best: u64,
@@ -26,14 +28,14 @@ pub struct Wanted {
 }
 
 // Both cutset kinds.
-#[derive(Drop)]
+#[derive(Clone, Copy)]
 pub enum Kind {
     LastExactLayer,
     Frontier,
 }
 
 // How many records were drained; or they were more than the list has places for, and none was written.
-#[derive(Drop)]
+#[derive(Clone, Copy)]
 pub enum Drained {
     Records(usize),
     TooMany,

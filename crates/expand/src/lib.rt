@@ -1,4 +1,6 @@
 // Rule 3 of document 01, the inner loop of `_compile` in clean.rs: a node's fast bound is noted, and it is branched on if it can beat the lower bound.
+#![tactic(auto)]
+
 ghost use Rattle.std.specs.Prelude.{◌≡◌, List, ◌<◌, ◌≤◌, length, take};
 ghost use Rattle.diagram.specs.Node.{with_fast};
 ghost use Rattle.rows.specs.Values.{node_of};
@@ -10,7 +12,7 @@ use branch::{Branch, Counts, Rooms, Step};
 use rows::{Node, NodeId};
 
 // The item that is decided: its depth, its counted weight and its profit.
-#[derive(Drop)]
+#[derive(Clone, Copy)]
 struct Item {
     depth: usize,
     weight: u64,

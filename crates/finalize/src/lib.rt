@@ -1,4 +1,6 @@
 // `_finalize` of clean.rs: a grown diagram's best node and best exact node, exactness, local bounds, cutset and drained records, with the values and paths that are answered.
+#![tactic(auto)]
+
 ghost use Rattle.std.specs.Prelude.{◌≡◌, ◌*◌, ◌≤◌, length};
 ghost use Rattle.layout.specs.Rows.{node_words};
 ghost use Rattle.layers.specs.Stored.{last_of};
@@ -16,14 +18,14 @@ use finish::Best;
 use layers::{Last, Layers};
 
 // The value of a best node, or none.
-#[derive(Drop)]
+#[derive(Clone, Copy)]
 pub enum Value {
     Is(i64),
     Missing,
 }
 
 // What a finished run answers. A path without a value is all 0.
-#[derive(Drop)]
+#[derive(Clone, Copy)]
 pub struct Finished {
     pub exact: bool,
     pub best: Value,
@@ -34,7 +36,7 @@ pub struct Finished {
 }
 
 // The record that was compiled, as far as its run's end needs it: its path with its length; and how many records the list has room for.
-#[derive(Drop)]
+#[derive(Clone, Copy)]
 pub struct Given {
     pub path: [u8; 64],
     pub depth: usize,
@@ -42,7 +44,7 @@ pub struct Given {
 }
 
 // What is known of a run before its rows are finished: whether it is exact, its best node and its best exact node.
-#[derive(Drop)]
+#[derive(Clone, Copy)]
 struct Judged {
     exact: bool,
     best: Best,

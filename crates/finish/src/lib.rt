@@ -1,4 +1,6 @@
 // What comes after the last layer in clean.rs: the best node and its walk up, the best path, and the local bounds.
+#![tactic(auto)]
+
 ghost use Rattle.std.specs.Prelude.{◌≡◌, true, cond, ◌&&◌, ◌||◌, ◌+◌, ◌*◌, ◌<◌, ◌≤◌, ltb, leb, eqb, length, take};
 ghost use Rattle.words.specs.I64.{mid};
 ghost use Rattle.diagram.specs.Node.{marked_with};
@@ -16,14 +18,14 @@ use layers::Layers;
 use rows::{EdgeId, Link, Node, NodeId};
 
 // The best terminal, or none where the run died out.
-#[derive(Drop)]
+#[derive(Clone, Copy)]
 pub enum Best {
     Node(NodeId),
     NoTerminal,
 }
 
 // A path of so many bytes, 0 in the places past them.
-#[derive(Drop)]
+#[derive(Clone, Copy)]
 pub struct Path {
     pub bytes: [u8; 64],
     pub len: usize,

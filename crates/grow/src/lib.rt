@@ -1,4 +1,6 @@
 // Rules 1, 2 and 5 of document 01, the outer loop of `_compile` in clean.rs: the root, then layer after layer ordered, squashed if it is too wide, stored and expanded.
+#![tactic(auto)]
+
 ghost use Rattle.std.specs.Prelude.{◌≡◌, cond, ◌∷◌, ◌+◌, ◌-◌, ◌*◌, ◌<◌, ◌≤◌, ltb, length, take};
 ghost use Rattle.diagram.specs.Run.{is_relaxing};
 ghost use Rattle.layout.specs.Rows.{node_words};
@@ -16,7 +18,7 @@ use layers::{Last, Layers};
 use rows::NodeId;
 
 // The three modes.
-#[derive(Drop)]
+#[derive(Clone, Copy)]
 pub enum Mode {
     Exact,
     Restricted,
@@ -24,7 +26,7 @@ pub enum Mode {
 }
 
 // What a run is told beside its items and its root: the lower bound is an i64, as a word.
-#[derive(Drop)]
+#[derive(Clone, Copy)]
 pub struct Task {
     pub mode: Mode,
     pub width: usize,
@@ -33,7 +35,7 @@ pub struct Task {
 }
 
 // What the root row takes from the record: its value is an i64, as a word.
-#[derive(Drop)]
+#[derive(Clone, Copy)]
 pub struct Root {
     pub capacity: u64,
     pub value: u64,
@@ -41,7 +43,7 @@ pub struct Root {
 }
 
 // How far a run has come: its step, the coming layer's first row, the stored layers and the last exact one.
-#[derive(Drop)]
+#[derive(Clone, Copy)]
 pub struct Growth {
     pub step: Step,
     pub start: usize,

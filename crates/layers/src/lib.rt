@@ -1,4 +1,6 @@
 // The stored layers of a diagram, each a range of rows, by value: the Rust's Vec<Layer>; and which of them is the last exact one.
+#![tactic(auto)]
+
 ghost use Rattle.std.specs.Prelude.{◌≡◌, [], ◌∷◌, ◌+◌, ◌<◌, ◌≤◌};
 ghost use Rattle.diagram.specs.Rule5.{name_last};
 ghost use Rattle.layers.specs.Stored.{Sized, stored, range, last_of};
@@ -7,7 +9,7 @@ ghost use Rattle.layers.specs.Stored.{Sized, stored, range, last_of};
 pub const MOST: usize = 65;
 
 // Layer i, the oldest first, has the rows from[i] .. to[i]. Places past the count hold 0, so that equal layers are equal values.
-#[derive(Drop)]
+#[derive(Clone, Copy)]
 pub struct Layers {
     pub from: [usize; MOST],
     pub to: [usize; MOST],
@@ -15,7 +17,7 @@ pub struct Layers {
 }
 
 // The last exact layer: the rows from .. to, once there was a squash.
-#[derive(Drop)]
+#[derive(Clone, Copy)]
 pub enum Last {
     Unsquashed,
     After(usize, usize),

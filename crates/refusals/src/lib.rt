@@ -1,4 +1,6 @@
 // Refusals 1 to 9 in code: whether a block problem and a record are refused before anything is written, and with which number.
+#![tactic(auto)]
+
 ghost use Rattle.std.specs.Prelude.{◌≡◌, cond, ℕ, ◌+◌, ◌≤◌, eqb, ℤ, length, get_or};
 ghost use Rattle.knapsack.specs.Items.{items_of, counted, item_of, is_take};
 ghost use Rattle.knapsack.specs.Limits.{InLimits};
@@ -10,7 +12,7 @@ use blocks::{counted, is_take, item_of};
 use words::{MID, word};
 
 // Document 01's answer to a check of its refusals: none applies, or the number of the first that does.
-#[derive(Drop)]
+#[derive(Clone, Copy)]
 pub enum Verdict {
     Accepted,
     Refused(u64),
@@ -142,7 +144,7 @@ fn is_natural(value: i64, n: u64) -> bool
 
 // Refusals 1 to 6: of weights and profits, page capacity and width.
 pub fn problem_refusal(weights: &[u64], profits: &[u64], page: u64, width: u64) -> Verdict
-    ensures { refusal_of result ≡ first_of (problem_checks (record { weights = weights.entry.now; profits = profits.now; page = page; width = width })) }
+    ensures { refusal_of result ≡ first_of (problem_checks (record { weights = weights.now; profits = profits.now; page = page; width = width })) }
 {
     if weights.len() != profits.len() {
         return Verdict::Refused(1);
@@ -177,7 +179,7 @@ pub fn record_refusal(
 ) -> Verdict
     requires { InLimits weights.now profits.now }
     ensures { (width : ℕ) (bound : ℤ) → refusal_of result ≡ first_of (record_checks
-        (record { weights = weights.entry.now; profits = profits.now; page = page; width = width })
+        (record { weights = weights.now; profits = profits.now; page = page; width = width })
         (record { capacity = capacity; value = value; bound = bound; depth = depth; path = path.now })) }
 {
     if depth > weights.len() as u64 || path.len() as u64 != depth {
@@ -205,7 +207,7 @@ pub fn compile_refusal(
     path: &[u8],
 ) -> Verdict
     ensures { (bound : ℤ) → refusal_of result ≡ compile_refusal
-        (record { weights = weights.entry.now; profits = profits.now; page = page; width = width })
+        (record { weights = weights.now; profits = profits.now; page = page; width = width })
         (record { capacity = capacity; value = value; bound = bound; depth = depth; path = path.now }) }
 {
     let problem = problem_refusal(weights, profits, page, width);

@@ -1,4 +1,6 @@
 // A node or an edge by value, read from and written to the words of its row, and a record written. No other code knows where a node's or an edge's words stand; a record's are also read in `records`.
+#![tactic(auto)]
+
 ghost use Rattle.std.specs.Prelude.{◌≡◌, ◌+◌, ◌*◌, ◌≤◌, length};
 ghost use Rattle.std.proofs.Math.Seq.{paste};
 ghost use Rattle.layout.specs.Records.{record_words};
@@ -17,19 +19,19 @@ pub const RECORD_WORDS: usize = 68;
 pub const PATH_ROOM: usize = 64;
 
 // The number of a node: its row in the node table.
-#[derive(Drop)]
+#[derive(Clone, Copy)]
 pub struct NodeId(pub usize);
 
 // The number of an edge: its row in the edge table.
-#[derive(Drop)]
+#[derive(Clone, Copy)]
 pub struct EdgeId(pub usize);
 
 // An edge or none, as it stands in a row: 0 for none, e + 1 for edge e.
-#[derive(Drop)]
+#[derive(Clone, Copy)]
 pub struct Link(pub u64);
 
 // A row of the node table. Value, bottom and fast are i64 numbers as words: number + 2^63.
-#[derive(Drop)]
+#[derive(Clone, Copy)]
 pub struct Node {
     pub capacity: u64,
     pub depth: u64,
@@ -46,7 +48,7 @@ pub struct Node {
 }
 
 // A row of the edge table. The cost is a profit or 0, and so a plain number.
-#[derive(Drop)]
+#[derive(Clone, Copy)]
 pub struct Edge {
     pub from: NodeId,
     pub to: NodeId,

@@ -1,4 +1,6 @@
 // `_restrict` and `_relax` of clean.rs: a layer that is too wide loses its last rows, or has them merged into one.
+#![tactic(auto)]
+
 ghost use Rattle.std.specs.Prelude.{◌≡◌, [], ◌∷◌, ◌+◌, ◌-◌, ◌*◌, ◌<◌, ◌≤◌, length, get_or, take, drop};
 ghost use Rattle.diagram.specs.Node.{with_deleted, as_relaxed};
 ghost use Rattle.layout.specs.Rows.{node_words};
@@ -11,7 +13,7 @@ use branch::{Branch, Counts, Rooms, Step};
 use rows::{EdgeId, Link, Node, NodeId};
 
 // A kept row with the merged rows' capacity, or none.
-#[derive(Drop)]
+#[derive(Clone, Copy)]
 enum Twin {
     At(NodeId),
     Missing,
