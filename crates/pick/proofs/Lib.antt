@@ -1,5 +1,2 @@
--- Laws of the end of a pick and of a pick over a lent search, and what its walks by hand share.
-pub mod InPlace
-pub mod Parts
+-- Laws of the end of a pick.
 pub mod Replacing
-pub mod Rows

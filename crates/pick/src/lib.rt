@@ -1,4 +1,6 @@
 // The call `pick`: one open record taken from the lent list, compiled in the lent tables, its drained records appended; and the same over a lent search.
+#![tactic(auto)]
+
 ghost use Rattle.std.specs.Prelude.{◌≡◌, true};
 ghost use Rattle.records.specs.Structs.{places};
 ghost use Rattle.searches.specs.Pick.{pick};

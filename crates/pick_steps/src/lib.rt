@@ -1,4 +1,6 @@
-// A pick but for its open list: what it decides, by value, and its compile, in tables of words. What is proved here is not walked by hand in `pick`.
+// A pick but for its open list: what it decides, by value, and its compile, in tables of words.
+#![tactic(auto)]
+
 ghost use Rattle.std.specs.Prelude.{◌≡◌, ◌*◌, ◌≤◌, length};
 ghost use Rattle.refusals.specs.Verdict.{refusal_of};
 ghost use Rattle.layout.specs.Records.{record_words};
@@ -24,7 +26,7 @@ use refusals::Verdict;
 use search::{Ask, Picked, Search};
 
 // What a compile comes to: the pick's verdict or the compile's, the search with the best value of both, and how many records of the scratch list are looked at.
-#[derive(Drop)]
+#[derive(Clone, Copy)]
 struct Tally {
     verdict: Verdict,
     search: Search,
@@ -32,7 +34,7 @@ struct Tally {
 }
 
 // What a pick comes to before its open list changes: its answer, how many records were open, and how many of the scratch list are looked at.
-#[derive(Drop)]
+#[derive(Clone, Copy)]
 pub struct Change {
     pub picked: Picked,
     pub opened: usize,
@@ -224,7 +226,7 @@ pub fn tried(
     }
 }
 
-// Whether the pick was accepted, so that the open list changes. A walk by hand never looks into a struct: it has a call for each field that it needs.
+// Whether the pick was accepted, so that the open list changes.
 pub fn is_accepted(c: Change) -> bool
     ensures { result ≡ is_accepted c.picked }
 {

@@ -2,14 +2,12 @@
 use mathlib.Core.Path.{◌≡◌, refl, sym, ap, subst, ◌∙◌}
 use mathlib.Core.Bool.{Bool, cond}
 use mathlib.Core.List.{List}
-use Prim.Native.Nat.{ℕ, ◌<◌, ◌≤◌}
+use Prim.Native.Nat.{ℕ}
 use native.Mathlib.Omega.{arith}
 use lib.Dec.{ltb}
-use lib.ListN.{length, length-map, take}
-use lib.Seq.{take_all, length-take-le}
-use mir.Val.{Val}
-use denote.Laws.{Is}
-use borrow.Author.Tests.{ltb-true, ltb-false, lt-ltb, le-ltb}
+use lib.ListN.{length, take}
+use lib.Seq.{take_all}
+use borrow.Author.Tests.{ltb-true}
 use Rattle.knapsack.proofs.Cases.{by_test}
 use Rattle.calls.specs.Compile.{Lent, compile}
 use Rattle.compile.specs.declared.Request.{Request}
@@ -18,29 +16,12 @@ use Rattle.compile.specs.Asked.{request_of}
 use Rattle.compile.specs.Answered.{Answers}
 use Rattle.query.specs.declared.Query.{Query}
 use Rattle.query.specs.Queried.{request_in, path_length, path_in, asked_by}
-use Rattle.query.specs.contracts.Query as Q
-
-pub deep_length : (q : Query) → 64 < q.root.depth → 64 ≡ path_length q
-deep_length q h = sym (ap (λ (b : Bool). cond b 64 q.root.depth) (lt-ltb 64 q.root.depth h))
-
-pub short_length : (q : Query) → q.root.depth ≤ 64 → q.root.depth ≡ path_length q
-short_length q h = sym (ap (λ (b : Bool). cond b 64 q.root.depth) (le-ltb 64 q.root.depth h))
-
-pub length_fits : (q : Query) → path_length q ≤ 64
-length_fits q = by_test (λ (b : Bool). cond b 64 q.root.depth ≤ 64) (ltb 64 q.root.depth) (λ h. omega arith) (λ h. omega (arith, ltb-false 64 q.root.depth h))
-
-pub length_taken : (q : Query) → length q.root.path ≡ 64 → path_length q ≡ length (take (path_length q) q.root.path)
-length_taken q l = sym (length-take-le (path_length q) q.root.path (omega (arith, length_fits q)))
 
 path_taken : (q : Query) → length q.root.path ≡ 64 → take (path_length q) q.root.path ≡ path_in q
 path_taken q l =
     let p = q.root.path in
     let d = q.root.depth in
     by_test (λ (b : Bool). take (cond b 64 d) p ≡ take d p) (ltb 64 d) (λ h. take_all 64 p (omega (arith, l)) ∙ sym (take_all d p (omega (arith, l, ltb-true 64 d h)))) (λ h. refl)
-
--- a query's machine values are those of a record with 64 bytes
-pub query_long : (q : Query) (vs : List Val) → Is Q.the_row q vs → length q.root.path ≡ 64
-query_long q vs g = sym (length-map q.root.path (λ (b : ℕ). b)) ∙ g.1.1.1.1.1.1.1.0.1.1.1.1.1.1.0.1.0.1
 
 pub answers_asked : (q : Query) (r : Request) (k : ℕ) → r ≡ request_in q → k ≡ path_length q → length q.root.path ≡ 64 → (ws ps : List ℕ) (l : Lent) (a : Answer) (ns es rs : List ℕ) → Answers (compile (request_of ws ps r (take k q.root.path)) l) a ns es rs → Answers (compile (asked_by ws ps q) l) a ns es rs
 answers_asked q r k request-is length-is long ws ps l a ns es rs h =

@@ -1,4 +1,6 @@
 // A compile of a record struct: what it is asked, and the record's path handed on as the first of its bytes.
+#![tactic(auto)]
+
 ghost use Rattle.std.specs.Prelude.{◌≡◌};
 ghost use Rattle.calls.specs.Compile.{compile};
 ghost use Rattle.compile.specs.Asked.{lent_of};
@@ -11,7 +13,7 @@ use grow::Mode;
 use records::Record;
 
 // What a compile of a record struct is asked: the page and how to compile it, and the record.
-#[derive(Drop)]
+#[derive(Clone, Copy)]
 pub struct Query {
     pub page: u64,
     pub width: u64,

@@ -1,4 +1,6 @@
 // Records as structs in a lent list: one got from a place, one removed and others moved down, those of a flat list of words appended; and such a list read.
+#![tactic(auto)]
+
 ghost use Rattle.std.specs.Prelude.{◌≡◌, ◌+◌, ◌*◌, ◌<◌, ◌≤◌, length, get_or};
 ghost use Rattle.std.specs.Int.Signed.{lt_z};
 ghost use Rattle.layout.specs.Records.{record_words};
@@ -10,7 +12,7 @@ use rows::{PATH_ROOM, RECORD_WORDS};
 
 // A record as a host holds it: its path is the first `depth` of the bytes. In a C host it has 96 bytes and no padding.
 #[repr(C)]
-#[derive(Drop)]
+#[derive(Clone, Copy)]
 pub struct Record {
     pub capacity: u64,
     pub value: i64,

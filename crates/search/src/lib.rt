@@ -1,4 +1,6 @@
 // The search: the call `start` over the lent list of record structs, and what start and pick decide, by value.
+#![tactic(auto)]
+
 ghost use Rattle.std.specs.Prelude.{◌≡◌, true, ℕ, ◌<◌, length};
 ghost use Rattle.knapsack.specs.Limits.{InLimits};
 ghost use Rattle.calls.specs.Refusals.{first_of, record_checks};
@@ -26,7 +28,7 @@ const LARGEST: i64 = 9223372036854775807;
 const MOST_PICKS: u64 = 18446744073709551615;
 
 // How a search is asked: the page, and how each record is compiled.
-#[derive(Drop)]
+#[derive(Clone, Copy)]
 pub struct Ask {
     pub page: u64,
     pub width: u64,
@@ -34,7 +36,7 @@ pub struct Ask {
 }
 
 // What a search holds. The path is all 0 where none is held.
-#[derive(Drop)]
+#[derive(Clone, Copy)]
 pub struct Search {
     pub best: i64,
     pub held: bool,
@@ -44,14 +46,14 @@ pub struct Search {
 }
 
 // What a start answers. A refused one gives its number alone: its search is all 0.
-#[derive(Drop)]
+#[derive(Clone, Copy)]
 pub struct Started {
     pub verdict: Verdict,
     pub search: Search,
 }
 
 // What a pick answers, with the search after it.
-#[derive(Drop)]
+#[derive(Clone, Copy)]
 pub struct Picked {
     pub verdict: Verdict,
     pub search: Search,
@@ -252,7 +254,7 @@ pub fn accepted_pick(s: Search, opened: usize) -> Picked
     }
 }
 
-// The search after a pick. A walk by hand never looks into a struct: it has a call for each field that it needs.
+// The search after a pick.
 pub fn search_of(p: Picked) -> Search
     ensures { result ≡ p.search }
 {

@@ -1,1 +1,2 @@
 // No code: what follows from the promises of `start` and `pick`: one answer for two picks, and demand 3 of calls.
+#![tactic(auto)]
