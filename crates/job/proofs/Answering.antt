@@ -3,10 +3,10 @@ use mathlib.Core.Path.{◌≡◌, refl, sym, ap, subst, ◌∙◌}
 use mathlib.Core.Bool.{Bool, true, false, not}
 use mathlib.Core.List.{List, [], ◌∷◌, map}
 use mathlib.Core.Option.{Option, some}
-use Prim.Native.Nat.{ℕ, zero, suc, ◌<◌, ◌≤◌}
+use Prim.Native.Nat.{ℕ, zero, suc, ◌<◌, ◌≤◌, min}
 use native.Mathlib.Omega.{arith}
 use lib.Dec.{leb}
-use lib.ListN.{length, take, replicate, length-map}
+use lib.ListN.{length, take, replicate, length-map, length-take, length-replicate}
 use borrow.Author.Tests.{leb-true, leb-false, lt-ltb, eq-eqb}
 use Rattle.knapsack.specs.Items.{Item}
 use Rattle.knapsack.proofs.Cases.{by_test}
@@ -137,6 +137,10 @@ first_same : (k n : ℕ) (r : Record) → k ≤ n → take k (replicate n r) ≡
 first_same zero n r le = refl
 first_same (suc k) zero r le = absurd (omega (arith, le))
 first_same (suc k) (suc n) r le = ap (λ (xs : List Record). r ∷ xs) (first_same k n r (omega (arith, le)))
+
+-- so many places are there
+pub first_there : (k n a : ℕ) (r : Record) → k ≡ min a n → k ≡ length (take k (replicate n r))
+first_there k n a r is = simp (length-take, length-replicate) (omega (arith, is))
 
 -- of what a run leaves, the tables and the scratch list
 leaves_lent : (text : List ℕ) (h after : Held) → Leaves text h after → LeavesLent text h after.lent

@@ -1,6 +1,3 @@
--- Laws of the steps of a job's run, that they make its answer, and what the walks through it share.
+-- Laws of the steps of a job's run: they make its answer.
 pub mod Answering
-pub mod Last
-pub mod OwnLists
-pub mod Rows
 pub mod Steps

@@ -6,21 +6,17 @@ use Prim.Native.Nat.{ℕ, ◌<◌, ◌≤◌}
 use native.Mathlib.Omega.{arith}
 use lib.Dec.{leb}
 use lib.IntN.{ℤ, pos}
-use lib.ListN.{length, take}
+use lib.ListN.{length}
 use borrow.Author.Tests.{leb-true}
 use Rattle.theorems.proofs.Bool.{and_right}
-use Rattle.cutset.specs.declared.Kind.{Kind}
-use Rattle.cutset.specs.Whole.{kind_of}
 use Rattle.refusals.specs.declared.Verdict.{Verdict}
 use Rattle.refusals.specs.declared.Verdict.TheVariants.{Accepted, Refused}
 use Rattle.searches.specs.Pick.{Held}
-use Rattle.search.specs.declared.Ask.{Ask}
 use Rattle.search.specs.declared.Search.{Search}
 use Rattle.search.specs.declared.Picked.{Picked}
 use Rattle.search.specs.Held.{no_search, search_of}
-use Rattle.search.specs.Asked.{problem_of}
 use Rattle.jobs.specs.Run.{ended}
-use Rattle.jobs.specs.Left.{Left, left_of}
+use Rattle.jobs.specs.Left.{Left}
 use Rattle.jobs.specs.Page.{natural, refusal_of, answer_of}
 use Rattle.job_laws.proofs.Optimum.{run_answers_the_optimum}
 use Rattle.page_text.specs.declared.Output.{Output}
@@ -29,7 +25,7 @@ use Rattle.page_text.specs.Page.{page_from}
 use Rattle.page_text.proofs.Counts.{page_of_search}
 use Rattle.job_text.specs.declared.ReadJob.{ReadJob}
 use Rattle.job_run.specs.Runs.{ending_by, ending_of, left_in}
-use Rattle.job.specs.Answered.{left_read, runs, unread_number, unread_of, left_if, Writable}
+use Rattle.job.specs.Answered.{runs, unread_number, unread_of, left_if, Writable}
 
 -- ---- whether a job is run
 
@@ -51,26 +47,7 @@ number_read r e = ap unread_number (sym e)
 pub number_none : (r : ReadJob) → r.ok ≡ false → 15 ≡ unread_number r.ok
 number_none r e = ap unread_number (sym e)
 
--- ---- how a run ends and what it leaves, or none
-
-pub none_ran : (r : ReadJob) (h : Held) (p : Picked) → runs r ≡ false → p ≡ unread_of r → left_in p h ≡ left_if (runs r) r h
-none_ran r h p off e = ap (λ (x : Picked). left_in x h) e ∙ ap (λ (b : Bool). left_if b r h) (sym off)
-
 module _ (r : ReadJob) (h : Held) (p : Picked) (after : Held) where
-  pub ran : (weights profits : List ℕ) (n : ℕ) (a : Ask) → weights ≡ r.weights → profits ≡ r.profits → n ≡ r.count → (a.page ≡ r.page) × ((a.width ≡ r.width) × (a.kind ≡ r.kind))
-      → left_in p after ≡ left_of (problem_of (take n weights) (take n profits) a.page a.width) (kind_of a.kind) h → left_in p after ≡ left_read r h
-  ran weights profits n a w f c q e =
-      e
-      ∙ ap (λ (x : List ℕ). left_of (problem_of (take n x) (take n profits) a.page a.width) (kind_of a.kind) h) w
-      ∙ ap (λ (x : List ℕ). left_of (problem_of (take n r.weights) (take n x) a.page a.width) (kind_of a.kind) h) f
-      ∙ ap (λ (x : ℕ). left_of (problem_of (take x r.weights) (take x r.profits) a.page a.width) (kind_of a.kind) h) c
-      ∙ ap (λ (x : ℕ). left_of (problem_of (take r.count r.weights) (take r.count r.profits) x a.width) (kind_of a.kind) h) q.0
-      ∙ ap (λ (x : ℕ). left_of (problem_of (take r.count r.weights) (take r.count r.profits) r.page x) (kind_of a.kind) h) q.1.0
-      ∙ ap (λ (x : Kind). left_of (problem_of (take r.count r.weights) (take r.count r.profits) r.page r.width) (kind_of x) h) q.1.1
-
-  pub one_ran : runs r ≡ true → left_in p after ≡ left_read r h → left_in p after ≡ left_if (runs r) r h
-  one_ran on e = e ∙ ap (λ (b : Bool). left_if b r h) (sym on)
-
   -- ---- what the answer is written from
 
   module _ (e : left_in p after ≡ left_if (runs r) r h) where

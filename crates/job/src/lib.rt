@@ -1,4 +1,6 @@
 // A job's text in, its answer out: the text is read, the search run over lent tables and lists, and the answer written.
+#![tactic(auto)]
+
 ghost use Rattle.std.specs.Prelude.{◌≡◌, ◌≤◌, min};
 ghost use Rattle.records.specs.Structs.{places};
 ghost use Rattle.compile.specs.Asked.{lent_of};
@@ -147,8 +149,7 @@ fn smaller(a: usize, b: usize) -> usize
     if a < b { a } else { b }
 }
 
-// The same over an open list of its own: so many places, all empty, and no more than 16,384. One function for programs of all sizes,
-// since its proof is a walk by hand.
+// The same over an open list of its own: so many places, all empty, and no more than 16,384. One function for programs of all sizes.
 pub fn answer(
     text: &[u8],
     nodes: &mut [u64],

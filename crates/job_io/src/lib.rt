@@ -1,8 +1,17 @@
 // Where a job's text comes from and where its answer goes: a file that an argument names or standard input, and standard output.
+#![tactic(auto)]
+
 ghost use Rattle.std.specs.Prelude.{◌≡◌, ◌≤◌, length};
 ghost use Rattle.io.specs.Counts.{IsPrefixLen};
 
 use page_text::Output;
+use std::env::{Env, FillError};
+use std::fs;
+use std::io::{Error, ErrorKind, Input, Read};
+use std::rt::Files;
+
+// The system's number for a name that is too long: that of an argument longer than the buffer for it.
+const NAME_TOO_LONG: i32 = 36;
 
 // Whether a text could be read, and how many of its bytes stand in the buffer. One that fills the buffer is longer than any job's text, and needn't be read on.
 #[derive(Drop)]
@@ -21,25 +30,31 @@ fn none() -> Taken
     }
 }
 
+// A line on standard error: what failed, and why. Where it can't be written there is no place left to say so.
+fn tell(rt: &impl Eprint, what: &str, why: Error) {
+    let _ = eprintln!(rt; "{what}: {why}");
+}
+
 // Reads once. No byte means that the input has ended.
-fn read_some(fd: i32, into: &mut [u8]) -> Taken
+fn read_some<R: Eprint, S: Read>(rt: &R, name: &str, from: &mut S, into: &mut [u8]) -> Taken
     ensures { result.count ≤ length into.old }
 {
-    let got = libc::read(fd, into);
-    let n = io::count(got, into);
-    Taken {
-        ok: 0 <= got,
-        count: n,
+    match from.read(into) {
+        Ok(n) => Taken { ok: true, count: n },
+        Err(e) => {
+            tell(rt, name, e);
+            none()
+        }
     }
 }
 
 // Reads until the input ends or the buffer is full.
-fn read_all(fd: i32, buf: &mut [u8]) -> Taken
+fn read_all<R: Eprint, S: Read>(rt: &R, name: &str, from: &mut S, buf: &mut [u8]) -> Taken
     ensures { IsPrefixLen result.count buf.new }
 {
     let mut at = 0;
     while at < buf.len() {
-        let t = read_some(fd, &mut buf[at..]);
+        let t = read_some(rt, name, from, &mut buf[at..]);
         if !t.ok {
             return none();
         }
@@ -55,72 +70,81 @@ fn read_all(fd: i32, buf: &mut [u8]) -> Taken
 }
 
 // The text of a file.
-fn read_file(path: &[u8], buf: &mut [u8]) -> Taken
+fn read_file<R: Files + Eprint>(rt: &R, path: &str, buf: &mut [u8]) -> Taken
     ensures { IsPrefixLen result.count buf.new }
 {
-    let fd = os::open_read(path);
-    if fd < 0 {
-        os::fail(path);
-        return none();
+    match fs::open(rt, path) {
+        Ok(mut file) => read_all(rt, path, &mut file, buf),
+        Err(e) => {
+            tell(rt, path, e);
+            none()
+        }
     }
-    let t = read_all(fd, buf);
-    if !t.ok {
-        os::fail(path);
-    }
-    libc::close(fd);
-    t
 }
 
 // The text of standard input.
-fn read_input(buf: &mut [u8]) -> Taken
+fn read_input<R: Input + Eprint>(rt: &R, buf: &mut [u8]) -> Taken
     ensures { IsPrefixLen result.count buf.new }
 {
-    let t = read_all(0, buf);
-    if !t.ok {
-        os::fail(b"standard input");
-    }
-    t
+    let mut input = rt.reader();
+    read_all(rt, "standard input", &mut input, buf)
+}
+
+// Whether the program was started with an argument i. Argument 0 is its own name.
+pub fn is_given<R: Env>(rt: &R, i: usize) -> bool {
+    let mut name = io::buffer();
+    !matches!(rt.arg(i, &mut name), Err(FillError::NotPresent))
 }
 
 // The text of the file that argument i names.
-pub fn read_named(i: usize, buf: &mut [u8]) -> Taken
+pub fn read_named<R: Env + Files + Eprint>(rt: &R, i: usize, buf: &mut [u8]) -> Taken
     ensures { IsPrefixLen result.count buf.new }
 {
     let mut path = io::buffer();
-    let length = os::arg(i, &mut path);
-    if os::errno() != 0 {
-        os::fail(b"the job file's name");
+    let Ok(length) = rt.arg(i, &mut path) else {
+        tell(
+            rt,
+            "the job file's name",
+            Error::from_raw_os_error(NAME_TOO_LONG),
+        );
         return none();
-    }
-    read_file(&path[..length], buf)
+    };
+    let Ok(name) = str::from_utf8(&path[..length]) else {
+        tell(
+            rt,
+            "the job file's name",
+            Error::from(ErrorKind::InvalidData),
+        );
+        return none();
+    };
+    read_file(rt, name, buf)
 }
 
 // The text of the file that the one argument names, or of standard input where there is none.
-pub fn read_job(buf: &mut [u8]) -> Taken
+pub fn read_job<R: Env + Files + Input + Eprint>(rt: &R, buf: &mut [u8]) -> Taken
     ensures { IsPrefixLen result.count buf.new }
 {
-    let words = os::arg_count();
-    if words < 2 {
-        return read_input(buf);
+    if !is_given(rt, 1) {
+        return read_input(rt, buf);
     }
-    if 2 < words {
-        io::write_all(2, b"one job file at most\n");
+    if is_given(rt, 2) {
+        let _ = eprintln!(rt; "one job file at most");
         return none();
     }
-    read_named(1, buf)
+    read_named(rt, 1, buf)
 }
 
 // Writes the first n bytes out.
-fn emit(bytes: &[u8], n: usize) {
+fn emit<R: Print + Eprint>(rt: &R, bytes: &[u8], n: usize) {
     if n <= bytes.len() {
-        if !io::write_all(1, &bytes[..n]) {
-            os::fail(b"standard output");
+        if let Err(e) = rt.write_all(&bytes[..n]) {
+            tell(rt, "standard output", e);
         }
     }
 }
 
 // Writes an answer out.
-pub fn write(o: Output) {
+pub fn write<R: Print + Eprint>(rt: &R, o: Output) {
     let bytes = o.bytes;
-    emit(&bytes, o.count);
+    emit(rt, &bytes, o.count);
 }

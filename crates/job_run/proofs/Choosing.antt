@@ -1,7 +1,7 @@
 -- The place of the largest bound, one record after the other.
---     largest-none     of no records
---     largest-more     of one record more: the larger of the two bounds
---     largest-few      it is no further than the records
+--     largest_none     of no records
+--     largest_more     of one record more: the larger of the two bounds
+--     largest_few      it is no further than the records
 use mathlib.Core.Path.{◌≡◌, refl, sym, ap, ◌∙◌}
 use mathlib.Core.Bool.{Bool, true, false}
 use mathlib.Core.List.{List, [], ◌∷◌, ◌++◌}
@@ -11,6 +11,7 @@ use lib.IntN.{ℤ}
 use lib.ListN.{length, get_or, take, length-take}
 use lib.Seq.{take-suc, get_or-take, length-take-le}
 use lib.Signed.{lt_z}
+use Rattle.std.proofs.lemmas.List.{get_or_default}
 use Rattle.searches.specs.Places.{Place}
 use Rattle.records.specs.declared.Record.{Record}
 use Rattle.records.specs.Structs.{place_from, places, no_record}
@@ -154,6 +155,13 @@ few (p ∷ ps) = omega (arith, from_few 1 0 p.bound ps (omega arith))
 
 pub largest_few : (rs : List Record) (j : ℕ) → largest (take j (places rs)) ≤ j
 largest_few rs j = omega (arith, few (take j (places rs)), length-take j (places rs))
+
+-- the same where the place so far is known, with any records past the end
+pub largest_next : (rs : List Record) (j best : ℕ) (d e : Record) → j < length rs → best ≡ largest (take j (places rs)) → larger best j (get_or rs best d) (get_or rs j e) ≡ largest (take (j + 1) (places rs))
+largest_next rs j best d e h b =
+    let m = largest (take j (places rs)) in
+    let l : m < length rs = omega (arith, largest_few rs j, h) in
+    rw (b, get_or_default rs m d no_record l, get_or_default rs j e no_record h) (largest_more rs j h)
 
 -- ---- the larger of two; the code compares bits, whose numbers x and y are
 module _ (best at : ℕ) (first other : Record) (x y : ℤ) (is_first : x ≡ first.bound) (is-other : y ≡ other.bound) where

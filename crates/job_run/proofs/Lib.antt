@@ -1,7 +1,5 @@
--- Laws of the largest bound and of a run's turns, and what the walks have in common.
+-- Laws of a run: its places, its turns, and two runs of one problem.
 pub mod Choosing
 pub mod Leaving
-pub mod Lending
-pub mod Passed
 pub mod Turning
 pub mod Twice

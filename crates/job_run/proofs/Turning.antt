@@ -3,16 +3,17 @@
 --     begins       it holds after the start
 --     turned       it holds after a turn, with a turn less to go
 --     asks         what a turn asks of the list's length
---     is-over      where no turn follows, the answer is the run's, and so is what lists and tables hold
---     picks-largest, accepted-goes     what `turn` and `goes_on` promise, from what they call and test
+--     is_over      where no turn follows, the answer is the run's, and so is what lists and tables hold
+--     picks_largest     what `turn` promises, from what it calls
+--     turns_left   how many turns are left after a call: `first_left` and `turned_left` are `begins` and `turned` at that number
 use mathlib.Core.Path.{◌≡◌, refl, sym, ap, ap₂, subst, ◌∙◌}
 use mathlib.Core.Logic.{◌≢◌}
 use mathlib.Core.Bool.{Bool, true, false}
 use mathlib.Core.List.{List, ◌++◌}
 use mathlib.Core.Option.{Option, none, some}
-use Prim.Native.Nat.{ℕ, zero, suc, ◌+◌, ◌<◌, ◌≤◌}
+use Prim.Native.Nat.{ℕ, zero, suc, ◌+◌, ◌-◌, ◌<◌, ◌≤◌}
 use native.Mathlib.Omega.{arith}
-use lib.Dec.{leb, ltb, eqb}
+use lib.Dec.{leb, eqb}
 use lib.IntN.{ℤ}
 use lib.ListN.{length, take, drop, length-append}
 use lib.Signed.{lt_z}
@@ -295,10 +296,6 @@ module _ (p : Problem) (kind : CutsetKind) (l : Lent) (e : Ending) (k : Held) wh
   pub is_over : (turns : ℕ) (c : Picked) (h : Held) → Going turns c h → is_going c ≡ false → left_in c h ≡ left e k
   is_over turns c h g o = let y = over_by c.verdict turns c h g o in ap₂ left y.0 y.1
 
--- whether an accepted call's run goes on
-pub accepted_goes : (c : Picked) → c.verdict ≡ Accepted → ltb 0 c.search.opened ≡ is_going c
-accepted_goes c e = sym (ap (λ (v : Verdict). going_by v c.search.opened) e)
-
 -- the pick that a turn makes is the definition's: place k is that of the largest bound of the first n, which are the open ones
 module _ (weights profits : List ℕ) (ask : Ask) (c : Picked) (s : Search) (n k : ℕ) (list : List Place) (nodes edges scratch : List ℕ) where
   pub picks_largest : s ≡ c.search → n ≡ s.opened → k ≡ largest (take n list) → (r : Picked) (ns es : List ℕ) (after : List Place) (left : List ℕ)
@@ -309,3 +306,34 @@ module _ (weights profits : List ℕ) (ask : Ask) (c : Picked) (s : Search) (n k
       let e : k ≡ largest (take c.search.opened list) = chosen ∙ ap (λ (m : ℕ). largest (take m list)) (counted ∙ ap (λ (z : Search). z.opened) searched) in
       subst (λ (z : Search). Picks (pick (asked_in weights profits ask (largest (take c.search.opened list))) (search_of z) (held_in list nodes edges scratch)) r ns es after left) searched
       (subst (λ (m : ℕ). Picks (pick (asked_in weights profits ask m) (search_of s) (held_in list nodes edges scratch)) r ns es after left) e x)
+
+-- ---- how many turns are left after a call, by what it answered
+
+abbrev pub turns_by : Verdict → ℕ → ℕ
+turns_by (Refused n) picks = 0
+turns_by Accepted picks = all_turns - picks
+
+abbrev pub turns_left : Picked → ℕ
+turns_left c = turns_by c.verdict c.search.picks
+
+module _ (p : Problem) (kind : CutsetKind) (l : Lent) (e : Ending) (k : Held) where
+  settled_by : (v : Verdict) (turns : ℕ) (s : Def.Search) (h : Held) → GoingBy p kind l e k v turns s h → (turns_by v s.picks ≤ turns) × GoingBy p kind l e k v (turns_by v s.picks) s h
+  settled_by (Refused n) turns s h g = (omega arith, g)
+  settled_by Accepted turns s h g =
+      let z : all_turns - s.picks ≡ turns = omega (arith, g.left) in
+      (omega (arith, z), subst (λ (t : ℕ). GoesOn p kind l e k t s h) (sym z) g)
+
+  pub settled : (turns : ℕ) (c : Picked) (h : Held) → Going p kind l e k turns c h → (turns_left c ≤ turns) × Going p kind l e k (turns_left c) c h
+  settled turns c h g = settled_by c.verdict turns (search_of c.search) h g
+
+  -- a turn: the turns left are fewer, and the picks go on
+  pub turned_left : (h : Held) → rooms_of l ≡ rooms_of h.lent → (r : Picked) (ns es : List ℕ) (after : List Place) (scratch : List ℕ) (c : Picked) → Going p kind l e k (turns_left c) c h → is_going c ≡ true
+      → Picks (pick (asked_for p kind (search_of c.search) h.list) (search_of c.search) h) r ns es after scratch → (turns_left r < turns_left c) × Going p kind l e k (turns_left r) r (held_in after ns es scratch)
+  turned_left h rooms r ns es after scratch c g o x =
+      let t = turned p kind l e k h rooms r ns es after scratch (turns_left c) c g o x in
+      let z = settled t.rest r (held_in after ns es scratch) t.going in
+      (omega (arith, z.0, t.less), z.1)
+
+  pub first_left : (h : Held) → e ≡ run_of p kind l h.list → k ≡ run_leaves p kind h → (a : Started) (after : List Place) (c : Picked) → Begins (start p i64_min h.list) a after → c ≡ picked_of a
+      → Going p kind l e k (turns_left c) c (record { list = after; lent = h.lent })
+  first_left h x y a after c z f = (settled all_turns c (record { list = after; lent = h.lent }) (rw f (begins p kind l e k h x y a after z))).1

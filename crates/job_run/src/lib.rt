@@ -1,4 +1,6 @@
 // The run of a job whose items are read: a start at i64 minimum, then picks of the largest bound, until the list is empty or a call is refused.
+#![tactic(auto)]
+
 ghost use Rattle.std.specs.Prelude.{◌≡◌, ◌≤◌, length, take};
 ghost use Rattle.words.specs.I64.{i64_min};
 ghost use Rattle.records.specs.Structs.{places};

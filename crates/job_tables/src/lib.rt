@@ -1,4 +1,6 @@
 // The answer to a job's text over tables and lists of the sizes that the job programs lend: those of document 01, and larger ones.
+#![tactic(auto)]
+
 ghost use Rattle.std.specs.Prelude.{replicate};
 ghost use Rattle.compile.specs.Asked.{lent_of};
 ghost use Rattle.job.specs.Answered.{empty_places, Answers};

@@ -1,14 +1,12 @@
 -- The branches of the reader's functions, each as a fact on the definition that it is to meet.
 use mathlib.Core.Path.{◌≡◌, refl, sym, ap, ◌∙◌}
 use mathlib.Core.Bool.{Bool, true, false}
-use mathlib.Core.List.{List, [], ◌∷◌}
+use mathlib.Core.List.{List}
 use Prim.Native.Nat.{ℕ, ◌+◌, ◌-◌, ◌*◌, ◌<◌, ◌≤◌}
 use native.Mathlib.Omega.{arith}
 use lib.Dec.{eqb}
 use lib.ListN.{length, get_or, set}
 use borrow.Author.Tests.{lt-ltb, le-ltb, le-leb, lt-leb, eq-eqb, ne_eqb}
-use types.Run.{OneOf, miss}
-use denote.Enum.Declared
 use Rattle.numbers.specs.Decimal.{is_digit}
 use Rattle.jobs.specs.Text.{nine_digits, most_bytes}
 use Rattle.job_text.specs.declared.Part.{Part}
@@ -18,7 +16,6 @@ use Rattle.job_text.specs.declared.Head.{Head}
 use Rattle.job_text.specs.Machine.{place, faulted, spelled_of, grown, pushed_of, closed_of, counted_of, chosen_of, next_from, next_of, head_of, is_item_word, ends_item, whole_at}
 use Rattle.job_text.specs.declared.Reader.{Reader}
 use Rattle.job_text.specs.Kept.{room, stored_at, moved_on, moved_with, moved_by, overrun_of, taken_of, stepped_of}
-use Rattle.job_text.specs.contracts.Part.{the_type}
 
 -- a word's letter
 pub spelled_past : (p : Place) (b : ℕ) (w : List ℕ) (then : Part) → length w ≤ p.at → faulted ≡ spelled_of p b w then
@@ -120,22 +117,22 @@ pub heading : (q part : Part) (n : ℕ) (h : Head) {r : Head} → q ≡ part →
 heading q part n h e is = is ∙ ap (λ (x : Part). head_of x n h) (sym e)
 
 -- the parts that a function's last arm is for
-pub unheaded : (part : Part) (n : ℕ) (h : Head) → OneOf (0 ∷ 2 ∷ 4 ∷ 5 ∷ 8 ∷ 10 ∷ 11 ∷ []) (Declared.tag_of the_type part) → h ≡ head_of part n h
+pub unheaded : (part : Part) (n : ℕ) (h : Head) → (part ≡ Page → ⊥) → (part ≡ Width → ⊥) → (part ≡ Lel → ⊥) → (part ≡ Frontier → ⊥) → (part ≡ Weight → ⊥) → h ≡ head_of part n h
 unfolding head_of
-unheaded CapWord n h k = refl
-unheaded Page n h k = absurd (miss (0 ∷ 2 ∷ 4 ∷ 5 ∷ 8 ∷ 10 ∷ 11 ∷ []) 1 tt k)
-unheaded WidthWord n h k = refl
-unheaded Width n h k = absurd (miss (0 ∷ 2 ∷ 4 ∷ 5 ∷ 8 ∷ 10 ∷ 11 ∷ []) 3 tt k)
-unheaded CutWord n h k = refl
-unheaded Choice n h k = refl
-unheaded Lel n h k = absurd (miss (0 ∷ 2 ∷ 4 ∷ 5 ∷ 8 ∷ 10 ∷ 11 ∷ []) 6 tt k)
-unheaded Frontier n h k = absurd (miss (0 ∷ 2 ∷ 4 ∷ 5 ∷ 8 ∷ 10 ∷ 11 ∷ []) 7 tt k)
-unheaded ItemWord n h k = refl
-unheaded Weight n h k = absurd (miss (0 ∷ 2 ∷ 4 ∷ 5 ∷ 8 ∷ 10 ∷ 11 ∷ []) 9 tt k)
-unheaded Profit n h k = refl
-unheaded Fault n h k = refl
+unheaded CapWord n h _ _ _ _ _ = refl
+unheaded Page n h k _ _ _ _ = absurd (k refl)
+unheaded WidthWord n h _ _ _ _ _ = refl
+unheaded Width n h _ k _ _ _ = absurd (k refl)
+unheaded CutWord n h _ _ _ _ _ = refl
+unheaded Choice n h _ _ _ _ _ = refl
+unheaded Lel n h _ _ k _ _ = absurd (k refl)
+unheaded Frontier n h _ _ _ k _ = absurd (k refl)
+unheaded ItemWord n h _ _ _ _ _ = refl
+unheaded Weight n h _ _ _ _ k = absurd (k refl)
+unheaded Profit n h _ _ _ _ _ = refl
+unheaded Fault n h _ _ _ _ _ = refl
 
-pub no_item_word : (part : Part) → OneOf (0 ∷ 1 ∷ 2 ∷ 3 ∷ 4 ∷ 5 ∷ 6 ∷ 7 ∷ 9 ∷ 10 ∷ 11 ∷ []) (Declared.tag_of the_type part) → false ≡ is_item_word part
+pub no_item_word : (part : Part) → (part ≡ ItemWord → ⊥) → false ≡ is_item_word part
 unfolding is_item_word
 no_item_word CapWord k = refl
 no_item_word Page k = refl
@@ -145,12 +142,12 @@ no_item_word CutWord k = refl
 no_item_word Choice k = refl
 no_item_word Lel k = refl
 no_item_word Frontier k = refl
-no_item_word ItemWord k = absurd (miss (0 ∷ 1 ∷ 2 ∷ 3 ∷ 4 ∷ 5 ∷ 6 ∷ 7 ∷ 9 ∷ 10 ∷ 11 ∷ []) 8 tt k)
+no_item_word ItemWord k = absurd (k refl)
 no_item_word Weight k = refl
 no_item_word Profit k = refl
 no_item_word Fault k = refl
 
-pub no_profit : (part : Part) (to : Part) → OneOf (0 ∷ 1 ∷ 2 ∷ 3 ∷ 4 ∷ 5 ∷ 6 ∷ 7 ∷ 8 ∷ 9 ∷ 11 ∷ []) (Declared.tag_of the_type part) → false ≡ ends_item part to
+pub no_profit : (part : Part) (to : Part) → (part ≡ Profit → ⊥) → false ≡ ends_item part to
 unfolding ends_item
 no_profit CapWord to k = refl
 no_profit Page to k = refl
@@ -162,7 +159,7 @@ no_profit Lel to k = refl
 no_profit Frontier to k = refl
 no_profit ItemWord to k = refl
 no_profit Weight to k = refl
-no_profit Profit to k = absurd (miss (0 ∷ 1 ∷ 2 ∷ 3 ∷ 4 ∷ 5 ∷ 6 ∷ 7 ∷ 8 ∷ 9 ∷ 11 ∷ []) 10 tt k)
+no_profit Profit to k = absurd (k refl)
 no_profit Fault to k = refl
 
 -- whether a text is whole

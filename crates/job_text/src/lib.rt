@@ -1,5 +1,7 @@
 // A job's text, read byte by byte: the place in the grammar, the number that is being read, and the job as far as it was read. `read` takes a whole text;
 // `begin`, `step` and `ended` take one that comes a byte at a time.
+#![tactic(auto)]
+
 ghost use Rattle.std.specs.Prelude.{◌≡◌, List, [], ◌∷◌, ◌++◌, ℕ, ◌<◌};
 ghost use Rattle.jobs.specs.Text.{most_bytes};
 ghost use Rattle.job_text.specs.Machine.{faulted, spelled_of, closed_of, pushed_of, counted_of, chosen_of, next_of, head_of, is_item_word, ends_item, whole_at};
@@ -22,7 +24,7 @@ const TAB: u8 = 9;
 const LF: u8 = 10;
 
 // The parts of a job's text, each with what ends it: a word with its tab or line feed, or a number. Behind a fault nothing is read.
-#[derive(Drop)]
+#[derive(Clone, Copy)]
 pub enum Part {
     CapWord,
     Page,
@@ -39,7 +41,7 @@ pub enum Part {
 }
 
 // Where in the text a reader stands: the part, how many of a word's letters were read or 1 behind a number's first digit, and the number.
-#[derive(Drop)]
+#[derive(Clone, Copy)]
 pub struct Place {
     pub part: Part,
     pub at: usize,
@@ -47,7 +49,7 @@ pub struct Place {
 }
 
 // What a job has beside its items, and the weight of the item that is being read. A number stands here while it is being read too.
-#[derive(Drop)]
+#[derive(Clone, Copy)]
 pub struct Head {
     pub page: u64,
     pub width: u64,
@@ -67,7 +69,7 @@ pub struct Reader {
 }
 
 // What a whole text gave: the job with its first 64 items, 0 behind them, and how many items there are; or all 0, and not ok.
-#[derive(Drop)]
+#[derive(Clone, Copy)]
 pub struct ReadJob {
     pub ok: bool,
     pub page: u64,

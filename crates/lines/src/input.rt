@@ -1,7 +1,9 @@
 // Numbers of a request, from standard input: decimal, each with one space or line end behind it. What was read ahead stands in a buffer.
 
+use std::io::{BufRead, Read};
+
 // How the reading goes: on, at the input's end, or stopped by text that is no request.
-#[derive(Drop)]
+#[derive(Clone, Copy)]
 pub enum State {
     Reading,
     Ended,
@@ -9,7 +11,7 @@ pub enum State {
 }
 
 // Where the reading stands: the buffer's bytes from `at` to `end` are yet to be taken.
-#[derive(Drop)]
+#[derive(Clone, Copy)]
 pub struct Input {
     pub state: State,
     pub at: usize,
@@ -63,8 +65,8 @@ pub fn is_broken(i: Input) -> bool {
     true
 }
 
-// The next byte. Where all bytes of the buffer are taken it is filled anew.
-fn next_byte(buf: &mut [u8; 65536], at: usize, end: usize) -> Byte {
+// The next byte. Where all bytes of the buffer are taken it is filled anew; a read that fails counts as the input's end.
+fn next_byte<R: std::io::Input>(rt: &R, buf: &mut [u8; 65536], at: usize, end: usize) -> Byte {
     if at < end {
         if at < 65536 {
             return Byte {
@@ -75,8 +77,8 @@ fn next_byte(buf: &mut [u8; 65536], at: usize, end: usize) -> Byte {
             };
         }
     }
-    let got = libc::read(0, buf);
-    let n = io::count(got, buf);
+    let mut input = rt.reader();
+    let n = input.read(buf).unwrap_or(0);
     Byte {
         some: 0 < n,
         byte: buf[0],
@@ -120,13 +122,13 @@ fn is_space(byte: u8) -> bool {
 }
 
 // The next number. A u64 has at most 20 digits.
-fn number(buf: &mut [u8; 65536], input: Input) -> Taken {
+fn number<R: std::io::Input>(rt: &R, buf: &mut [u8; 65536], input: Input) -> Taken {
     let mut value = 0;
     let mut at = input.at;
     let mut end = input.end;
     let mut digits = 0;
     while digits < 21 {
-        let n = next_byte(buf, at, end);
+        let n = next_byte(rt, buf, at, end);
         at = n.at;
         end = n.end;
         if !n.some {
@@ -157,7 +159,13 @@ fn inside(i: Input, taken: usize) -> Input {
 }
 
 // The next `count` numbers, into the list's first places. More numbers than places are no part of a request.
-pub fn list(buf: &mut [u8; 65536], input: Input, into: &mut [u64], count: u64) -> Input {
+pub fn list<R: std::io::Input>(
+    rt: &R,
+    buf: &mut [u8; 65536],
+    input: Input,
+    into: &mut [u64],
+    count: u64,
+) -> Input {
     let mut i = input;
     let mut k = 0;
     while k < into.len() {
@@ -167,7 +175,7 @@ pub fn list(buf: &mut [u8; 65536], input: Input, into: &mut [u64], count: u64) -
         if !is_reading(i) {
             return inside(i, k);
         }
-        let n = number(buf, i);
+        let n = number(rt, buf, i);
         into[k] = n.value;
         i = n.input;
         k += 1;

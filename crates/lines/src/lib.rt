@@ -1,4 +1,6 @@
 // Programs that answer lines of numbers with lines of numbers: reading, writing, lent tables before and after a call, and the small numbers of an answer.
+#![tactic(auto)]
+
 pub mod input;
 pub mod output;
 pub mod tables;

@@ -9,7 +9,7 @@ pub fn fill(table: &mut [u64], start: u64, step: u64) {
     let mut i = 0;
     while i < table.len() {
         table[i] = old;
-        old = std::num::wrapping_add_u64(old, step);
+        old = old.wrapping_add(step);
         i += 1;
     }
 }
@@ -33,21 +33,29 @@ fn changed(table: &[u64], start: u64, step: u64) -> usize
         if table[i] != old {
             last = i + 1;
         }
-        old = std::num::wrapping_add_u64(old, step);
+        old = old.wrapping_add(step);
         i += 1;
     }
     last
 }
 
 // A table after the call: the number of words up to the last that changed, and these words.
-fn put_table(out: &mut [u8; 65536], at: usize, table: &[u64], start: u64, step: u64) -> usize {
+fn put_table<R: Print>(
+    rt: &R,
+    out: &mut [u8; 65536],
+    at: usize,
+    table: &[u64],
+    start: u64,
+    step: u64,
+) -> usize {
     let count = changed(table, start, step);
-    let behind = put(out, at, count as u64);
-    put_list(out, behind, &table[..count])
+    let behind = put(rt, out, at, count as u64);
+    put_list(rt, out, behind, &table[..count])
 }
 
 // The three tables after the call.
-pub fn put_tables(
+pub fn put_tables<R: Print>(
+    rt: &R,
     out: &mut [u8; 65536],
     at: usize,
     nodes: &[u64],
@@ -56,7 +64,7 @@ pub fn put_tables(
     head: [u64; 19],
 ) -> usize {
     let step = head[18];
-    let first = put_table(out, at, nodes, head[15], step);
-    let second = put_table(out, first, edges, head[16], step);
-    put_table(out, second, records, head[17], step)
+    let first = put_table(rt, out, at, nodes, head[15], step);
+    let second = put_table(rt, out, first, edges, head[16], step);
+    put_table(rt, out, second, records, head[17], step)
 }

@@ -1,11 +1,13 @@
 // Answers one job over document 01's sizes: the text of the file that its argument names, or of standard input where it has none.
-fn main() {
+#![tactic(auto)]
+
+fn main(rt: HostRuntime) {
     let mut text = io::large_buffer();
-    let taken = job_io::read_job(&mut text);
+    let taken = job_io::read_job(&rt, &mut text);
     if !taken.ok {
         return;
     }
     let count = taken.count;
     let answer = job_tables::answer(&text[..count]);
-    job_io::write(answer);
+    job_io::write(&rt, answer);
 }

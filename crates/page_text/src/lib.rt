@@ -1,4 +1,6 @@
 // A job's answer as text: best, a line for each item and picks, or the refusal alone.
+#![tactic(auto)]
+
 ghost use Rattle.std.specs.Prelude.{◌≡◌, cond, [], ◌∷◌, ◌++◌, ◌+◌, ◌<◌, ◌≤◌, length};
 ghost use Rattle.numbers.specs.Decimal.{decimal};
 ghost use Rattle.jobs.specs.Text.{line, line3, item};

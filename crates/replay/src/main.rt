@@ -1,4 +1,6 @@
 // Reads requests for `compile` from standard input and answers each with what the call answers and leaves in the lent tables. tools/oracle/README.md has the format.
+#![tactic(auto)]
+
 mod answers;
 mod requests;
 
@@ -30,7 +32,8 @@ fn compiled(
 }
 
 // The call with its answer, the tables being lent whole.
-fn call(
+fn call<R: Print>(
+    rt: &R,
     out: &mut [u8; 65536],
     at: usize,
     head: [u64; 19],
@@ -42,14 +45,15 @@ fn call(
     records: &mut [u64],
 ) -> usize {
     let a = compiled(head, weights, profits, path, nodes, edges, records);
-    let first = answers::put_answer(out, at, a);
-    let end = put_tables(out, first, nodes, edges, records, head);
+    let first = answers::put_answer(rt, out, at, a);
+    let end = put_tables(rt, out, first, nodes, edges, records, head);
     output::end_line(out, end);
     end
 }
 
 // The call over the first words of these tables, so many as the request lends.
-fn lend(
+fn lend<R: Print>(
+    rt: &R,
     out: &mut [u8; 65536],
     at: usize,
     head: [u64; 19],
@@ -64,6 +68,7 @@ fn lend(
     let e = at_most(head[13], edges.len());
     let r = at_most(head[14], records.len());
     call(
+        rt,
         out,
         at,
         head,
@@ -77,7 +82,8 @@ fn lend(
 }
 
 // Answers a request, whose weights, profits and path stand first in these lists.
-fn answer(
+fn answer<R: Print>(
+    rt: &R,
     out: &mut [u8; 65536],
     at: usize,
     head: [u64; 19],
@@ -92,6 +98,7 @@ fn answer(
     let p = at_most(head[1], profits.len());
     let l = at_most(head[2], path.len());
     lend(
+        rt,
         out,
         at,
         head,
@@ -105,7 +112,8 @@ fn answer(
 }
 
 // Reads a request and answers it.
-fn turn(
+fn turn<R: std::io::Input + Print>(
+    rt: &R,
     buf: &mut [u8; 65536],
     out: &mut [u8; 65536],
     nodes: &mut [u64],
@@ -118,7 +126,7 @@ fn turn(
     let mut weights = [0u64; 192];
     let mut profits = [0u64; 192];
     let mut path = [0u8; 320];
-    let behind = requests::read(buf, i, &mut head, &mut weights, &mut profits, &mut path);
+    let behind = requests::read(rt, buf, i, &mut head, &mut weights, &mut profits, &mut path);
     if !input::is_reading(behind) {
         return Stand {
             input: behind,
@@ -126,7 +134,7 @@ fn turn(
         };
     }
     let end = answer(
-        out, at, head, &weights, &profits, &path, nodes, edges, records,
+        rt, out, at, head, &weights, &profits, &path, nodes, edges, records,
     );
     Stand {
         input: behind,
@@ -135,14 +143,15 @@ fn turn(
 }
 
 // Says what is wrong where the input didn't end behind a request.
-fn tell(i: Input) {
+fn tell<R: Eprint>(rt: &R, i: Input) {
     if input::is_broken(i) {
-        io::write_all(2, b"replay: this is no request\n");
+        let _ = rt.eprintln("replay: this is no request");
     }
 }
 
 // Request after request. A proved loop has to end, so it counts its turns down, from a number that no run uses up.
-fn serve(
+fn serve<R: std::io::Input + Print + Eprint>(
+    rt: &R,
     buf: &mut [u8; 65536],
     out: &mut [u8; 65536],
     nodes: &mut [u64],
@@ -156,21 +165,28 @@ fn serve(
         if !input::is_reading(i) {
             break;
         }
-        let s = turn(buf, out, nodes, edges, records, i, at);
+        let s = turn(rt, buf, out, nodes, edges, records, i, at);
         i = s.input;
         at = s.at;
         turns -= 1;
     }
-    output::flush(out, at);
-    tell(i);
+    output::flush(rt, out, at);
+    tell(rt, i);
 }
 
 // The tables are the largest that a request may ask for: `requests::tables_fit`.
-fn main() {
+fn main(rt: HostRuntime) {
     let mut buf = io::large_buffer();
     let mut out = io::large_buffer();
     let mut nodes = [0u64; 233904];
     let mut edges = [0u64; 216585];
     let mut records = [0u64; 139264];
-    serve(&mut buf, &mut out, &mut nodes, &mut edges, &mut records);
+    serve(
+        &rt,
+        &mut buf,
+        &mut out,
+        &mut nodes,
+        &mut edges,
+        &mut records,
+    );
 }

@@ -85,9 +85,15 @@ fn fits(head: &[u64; 19]) -> bool {
 }
 
 // A request's path, which is read last.
-fn read_path(buf: &mut [u8; 65536], i: Input, path: &mut [u8], count: u64) -> Input {
+fn read_path<R: std::io::Input>(
+    rt: &R,
+    buf: &mut [u8; 65536],
+    i: Input,
+    path: &mut [u8],
+    count: u64,
+) -> Input {
     let mut numbers = [0u64; 320];
-    let behind = input::list(buf, i, &mut numbers, count);
+    let behind = input::list(rt, buf, i, &mut numbers, count);
     if !input::is_reading(behind) {
         return input::stopped(State::Broken);
     }
@@ -98,7 +104,8 @@ fn read_path(buf: &mut [u8; 65536], i: Input, path: &mut [u8], count: u64) -> In
 }
 
 // The numbers of a request. At the input's end there is none; what ends before its last number is none either.
-pub fn read(
+pub fn read<R: std::io::Input>(
+    rt: &R,
     buf: &mut [u8; 65536],
     i: Input,
     head: &mut [u64; 19],
@@ -106,14 +113,14 @@ pub fn read(
     profits: &mut [u64],
     path: &mut [u8],
 ) -> Input {
-    let begun = input::list(buf, i, head, 19);
+    let begun = input::list(rt, buf, i, head, 19);
     if !input::is_reading(begun) {
         return begun;
     }
     if !fits(head) {
         return input::stopped(State::Broken);
     }
-    let behind = input::list(buf, begun, weights, head[0]);
-    let last = input::list(buf, behind, profits, head[1]);
-    read_path(buf, last, path, head[2])
+    let behind = input::list(rt, buf, begun, weights, head[0]);
+    let last = input::list(rt, buf, behind, profits, head[1]);
+    read_path(rt, buf, last, path, head[2])
 }

@@ -17,9 +17,10 @@ pub fn records_of(words: &[u64; 4352]) -> [Record; 64] {
     list
 }
 
-fn put_record(out: &mut [u8; 65536], at: usize, r: Record) -> usize {
+fn put_record<R: Print>(rt: &R, out: &mut [u8; 65536], at: usize, r: Record) -> usize {
     let path = r.path;
     let end = put_list(
+        rt,
         out,
         at,
         &[
@@ -29,27 +30,40 @@ fn put_record(out: &mut [u8; 65536], at: usize, r: Record) -> usize {
             r.depth,
         ],
     );
-    put_path(out, end, path)
+    put_path(rt, out, end, path)
 }
 
 // The first n records of a list.
-pub fn put_records(out: &mut [u8; 65536], at: usize, list: [Record; 64], n: usize) -> usize {
+pub fn put_records<R: Print>(
+    rt: &R,
+    out: &mut [u8; 65536],
+    at: usize,
+    list: [Record; 64],
+    n: usize,
+) -> usize {
     let mut end = at;
     let mut i = 0;
     while i < 64 {
         if n <= i {
             return end;
         }
-        end = put_record(out, end, list[i]);
+        end = put_record(rt, out, end, list[i]);
         i += 1;
     }
     end
 }
 
 // The refusal's number, and the search after the call.
-pub fn put_search(out: &mut [u8; 65536], at: usize, verdict: Verdict, s: Search) -> usize {
+pub fn put_search<R: Print>(
+    rt: &R,
+    out: &mut [u8; 65536],
+    at: usize,
+    verdict: Verdict,
+    s: Search,
+) -> usize {
     let path = s.path;
     let end = put_list(
+        rt,
         out,
         at,
         &[
@@ -60,5 +74,5 @@ pub fn put_search(out: &mut [u8; 65536], at: usize, verdict: Verdict, s: Search)
             s.picks,
         ],
     );
-    put_path(out, end, path)
+    put_path(rt, out, end, path)
 }

@@ -1,4 +1,6 @@
 // Reads requests for `start` and `pick` from standard input and answers each with what the call answers and leaves in the lent lists and tables. tools/search/README.md has the format.
+#![tactic(auto)]
+
 mod answers;
 mod over;
 mod requests;
@@ -17,7 +19,8 @@ struct Stand {
 }
 
 // A start, with its answer. It is lent no table and no scratch list, so none of their words changes.
-fn answer_start(
+fn answer_start<R: Print>(
+    rt: &R,
     out: &mut [u8; 65536],
     at: usize,
     head: [u64; 19],
@@ -33,13 +36,14 @@ fn answer_start(
     let verdict = started.verdict;
     let search = started.search;
     let after = a.list;
-    let first = answers::put_search(out, at, verdict, search);
-    let second = answers::put_records(out, first, after, n);
-    put_list(out, second, &[0, 0, 0])
+    let first = answers::put_search(rt, out, at, verdict, search);
+    let second = answers::put_records(rt, out, first, after, n);
+    put_list(rt, out, second, &[0, 0, 0])
 }
 
 // A pick over these tables and this scratch list, with its answer but for them.
-fn picked(
+fn picked<R: Print>(
+    rt: &R,
     out: &mut [u8; 65536],
     at: usize,
     head: [u64; 19],
@@ -61,13 +65,14 @@ fn picked(
     let answer = a.picked;
     let verdict = answer.verdict;
     let search = answer.search;
-    let first = answers::put_search(out, at, verdict, search);
+    let first = answers::put_search(rt, out, at, verdict, search);
     let after = a.list;
-    answers::put_records(out, first, after, n)
+    answers::put_records(rt, out, first, after, n)
 }
 
 // A pick over tables and a scratch list of those old contents, with its answer.
-fn answer_pick(
+fn answer_pick<R: Print>(
+    rt: &R,
     out: &mut [u8; 65536],
     at: usize,
     head: [u64; 19],
@@ -81,13 +86,14 @@ fn answer_pick(
 ) -> usize {
     fill_all(nodes, edges, scratch, head);
     let end = picked(
-        out, at, head, weights, profits, path, list, nodes, edges, scratch,
+        rt, out, at, head, weights, profits, path, list, nodes, edges, scratch,
     );
-    put_tables(out, end, nodes, edges, scratch, head)
+    put_tables(rt, out, end, nodes, edges, scratch, head)
 }
 
 // The call that is asked, over the first words of these tables, so many as the request lends.
-fn call(
+fn call<R: Print>(
+    rt: &R,
     out: &mut [u8; 65536],
     at: usize,
     head: [u64; 19],
@@ -100,12 +106,13 @@ fn call(
     scratch: &mut [u64],
 ) -> usize {
     if head[0] == 0 {
-        return answer_start(out, at, head, weights, profits, list);
+        return answer_start(rt, out, at, head, weights, profits, list);
     }
     let n = at_most(head[12], nodes.len());
     let e = at_most(head[13], edges.len());
     let r = at_most(head[14], scratch.len());
     answer_pick(
+        rt,
         out,
         at,
         head,
@@ -120,7 +127,8 @@ fn call(
 }
 
 // Answers a request, whose weights and profits stand first in these lists.
-fn answer(
+fn answer<R: Print>(
+    rt: &R,
     out: &mut [u8; 65536],
     at: usize,
     head: [u64; 19],
@@ -136,6 +144,7 @@ fn answer(
     let p = at_most(head[2], profits.len());
     let l = answers::records_of(list);
     let end = call(
+        rt,
         out,
         at,
         head,
@@ -152,7 +161,8 @@ fn answer(
 }
 
 // Reads a request and answers it.
-fn turn(
+fn turn<R: std::io::Input + Print>(
+    rt: &R,
     buf: &mut [u8; 65536],
     out: &mut [u8; 65536],
     nodes: &mut [u64],
@@ -167,6 +177,7 @@ fn turn(
     let mut path = [0u64; 64];
     let mut list = [0u64; 4352];
     let behind = requests::read(
+        rt,
         buf,
         i,
         &mut head,
@@ -182,7 +193,7 @@ fn turn(
         };
     }
     let end = answer(
-        out, at, head, &weights, &profits, &path, &list, nodes, edges, scratch,
+        rt, out, at, head, &weights, &profits, &path, &list, nodes, edges, scratch,
     );
     Stand {
         input: behind,
@@ -191,14 +202,15 @@ fn turn(
 }
 
 // Says what is wrong where the input didn't end behind a request.
-fn tell(i: Input) {
+fn tell<R: Eprint>(rt: &R, i: Input) {
     if input::is_broken(i) {
-        io::write_all(2, b"search_replay: this is no request\n");
+        let _ = rt.eprintln("search_replay: this is no request");
     }
 }
 
 // Request after request. A proved loop has to end, so it counts its turns down, from a number that no run uses up.
-fn serve(
+fn serve<R: std::io::Input + Print + Eprint>(
+    rt: &R,
     buf: &mut [u8; 65536],
     out: &mut [u8; 65536],
     nodes: &mut [u64],
@@ -212,21 +224,28 @@ fn serve(
         if !input::is_reading(i) {
             break;
         }
-        let s = turn(buf, out, nodes, edges, scratch, i, at);
+        let s = turn(rt, buf, out, nodes, edges, scratch, i, at);
         i = s.input;
         at = s.at;
         turns -= 1;
     }
-    output::flush(out, at);
-    tell(i);
+    output::flush(rt, out, at);
+    tell(rt, i);
 }
 
 // The tables and the scratch list are the largest that a request may ask for: `requests::tables_fit`.
-fn main() {
+fn main(rt: HostRuntime) {
     let mut buf = io::large_buffer();
     let mut out = io::large_buffer();
     let mut nodes = [0u64; 16384];
     let mut edges = [0u64; 16384];
     let mut scratch = [0u64; 16384];
-    serve(&mut buf, &mut out, &mut nodes, &mut edges, &mut scratch);
+    serve(
+        &rt,
+        &mut buf,
+        &mut out,
+        &mut nodes,
+        &mut edges,
+        &mut scratch,
+    );
 }

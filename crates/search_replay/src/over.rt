@@ -1,4 +1,4 @@
-// The two calls over lists by value, whose first places they lend. The proof's walk of a lent list of record structs is by hand, so these functions do no more.
+// The two calls over lists by value, whose first places they lend.
 ghost use Rattle.std.specs.Prelude.{◌≤◌};
 
 use records::Record;

@@ -79,7 +79,8 @@ fn fits(head: &[u64; 19]) -> bool {
 }
 
 // The path and the words of so many records, which are read last. An end before the last number is no place for it.
-fn read_lists(
+fn read_lists<R: std::io::Input>(
+    rt: &R,
     buf: &mut [u8; 65536],
     i: Input,
     path: &mut [u64],
@@ -87,8 +88,8 @@ fn read_lists(
     places: u64,
 ) -> Input {
     let n = at_most(places, 64);
-    let behind = input::list(buf, i, path, 64);
-    let last = input::list(buf, behind, list, n as u64 * 68);
+    let behind = input::list(rt, buf, i, path, 64);
+    let last = input::list(rt, buf, behind, list, n as u64 * 68);
     if !input::is_reading(last) {
         return input::stopped(State::Broken);
     }
@@ -96,7 +97,8 @@ fn read_lists(
 }
 
 // The numbers of a request. At the input's end there is none; what ends before its last number is none either.
-pub fn read(
+pub fn read<R: std::io::Input>(
+    rt: &R,
     buf: &mut [u8; 65536],
     i: Input,
     head: &mut [u64; 19],
@@ -105,14 +107,14 @@ pub fn read(
     path: &mut [u64],
     list: &mut [u64],
 ) -> Input {
-    let begun = input::list(buf, i, head, 19);
+    let begun = input::list(rt, buf, i, head, 19);
     if !input::is_reading(begun) {
         return begun;
     }
     if !fits(head) {
         return input::stopped(State::Broken);
     }
-    let behind = input::list(buf, begun, weights, head[1]);
-    let second = input::list(buf, behind, profits, head[2]);
-    read_lists(buf, second, path, list, head[11])
+    let behind = input::list(rt, buf, begun, weights, head[1]);
+    let second = input::list(rt, buf, behind, profits, head[2]);
+    read_lists(rt, buf, second, path, list, head[11])
 }
