@@ -140,7 +140,7 @@ JAMBTULIP_ASSERT(offsetof(struct jambtulip_page, end) == 679, "end is at 679");
    row of `edges`, JAMBTULIP_RECORD_WORDS to a place of `records` and `scratch`. Words behind the last whole row or place are none, and stay as they are.
    What the words hold before a call never matters. Open records are structs: the length of `list` is in records.
 
-   Link with libhost.a, which `rt staticlib host` writes to target/staticlib; it needs memcpy and memset of the C library alone. */
+   Link with libhost.a, which tools/hosts/archive.sh leaves in target/staticlib; it needs memcpy and memset of the C library alone. */
 
 /* Compiles question.root. The drained records stand in the first found->drained places of `records`; refused, `records` stays as it is. `found` is
    written, accepted or refused. Gives 1 to 13. */

@@ -1,4 +1,4 @@
-//! Tells cargo where libhost.a is: in the folder that JAMBTULIP_LIB names, or where `rt staticlib host` leaves it.
+//! Tells cargo where libhost.a is: in the folder that JAMBTULIP_LIB names, or where tools/hosts/archive.sh leaves it.
 
 use std::env;
 use std::path::PathBuf;

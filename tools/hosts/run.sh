@@ -1,9 +1,9 @@
 #!/usr/bin/env bash
 # Builds the hosts in C and Rust over libhost.a, runs them over the gate's jobs and compares their answers with the job program's.
 #
-# JAMBTULIP_LIB names the folder of libhost.a; without it, target/staticlib, and `rt staticlib host` makes the archive if it isn't there.
+# JAMBTULIP_LIB names the folder of libhost.a; without it, target/staticlib, and archive.sh makes the archive if it isn't there.
 # HOSTS_DIR names the build folder; without it, jambtulip-hosts below TMPDIR. HOSTS_KIT=1 builds and runs C by the Rattle kit's own
-# compiler, linker and C library, as is always done where the machine is not x86-64; there the kit's emulator runs it, and Rust is skipped.
+# compiler, linker and C library. The archive is for x86-64, and so is this script.
 set -euo pipefail
 
 here=$(cd "$(dirname "${BASH_SOURCE[0]}")" && pwd)
@@ -16,7 +16,7 @@ started=() # the words that start a C program
 status=0
 
 make_archive() {
-  [ -f "$JAMBTULIP_LIB/libhost.a" ] || (cd "$root" && rt staticlib host)
+  [ -f "$JAMBTULIP_LIB/libhost.a" ] || "$here/archive.sh" "$JAMBTULIP_LIB"
 }
 
 # A failed comparison doesn't stop the next.
@@ -42,12 +42,8 @@ build_c_by_kit() { # PROGRAM SOURCE..
 }
 
 use_kit() {
-  local guide emulator
-  guide=$(rt doc)
-  kit=$(cd "$(dirname "$guide")/.." && pwd)/on/$(uname -m)
-  emulator=$kit/toolchain/bin/qemu-x86_64
-  [ ! -x "$emulator" ] || started=("$emulator")
-  started+=("$kit/toolchain/lib/ld-linux-x86-64.so.2" --library-path "$kit/toolchain/lib")
+  kit=$(dirname "$(rt doc)")
+  started=("$kit/toolchain/lib/ld-linux-x86-64.so.2" --library-path "$kit/toolchain/lib")
 }
 
 test_c() { # BUILDER
@@ -67,19 +63,16 @@ test_rust() {
 }
 
 main() {
+  [ "$(uname -m)" = x86_64 ] || { echo "run.sh: libhost.a links into x86-64 programs alone" >&2; exit 2; }
   mkdir -p "$build"
   make_archive
-  if [ "$(uname -m)" = x86_64 ] && [ -z "${HOSTS_KIT:-}" ]; then
+  if [ -z "${HOSTS_KIT:-}" ]; then
     test_c build_c
   else
     use_kit
     test_c build_c_by_kit
   fi
-  if [ "$(uname -m)" = x86_64 ]; then
-    test_rust
-  else
-    echo "Rust is skipped: libhost.a links into x86-64 programs alone"
-  fi
+  test_rust
   exit "$status"
 }
 

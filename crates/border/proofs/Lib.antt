@@ -1,3 +1,2 @@
 -- Laws of the numbers and structs that cross the border.
-pub mod Rows
 pub mod Values

@@ -1,4 +1,6 @@
 // What crosses the border to a C or Rust host: structs of plain numbers, what a host's numbers ask, and what it reads of each answer.
+#![tactic(auto)]
+
 ghost use Rattle.std.specs.Prelude.{◌≡◌};
 ghost use Rattle.border.specs.Border.{number_of, kind_in, mode_in, flag_of, flag_in, has_of, value_of, ask_in, query_in, search_in, host_search_of, host_search_after, found_of, shown_of};
 
@@ -14,7 +16,7 @@ use search::{Ask, Search};
 
 // How a search is asked: the page, the width, and the cutset's number, 0 for the last exact layer and any other for the frontier.
 #[repr(C)]
-#[derive(Drop)]
+#[derive(Clone, Copy)]
 pub struct Terms {
     pub page: u64,
     pub width: u64,
@@ -23,7 +25,7 @@ pub struct Terms {
 
 // What a compile is asked: the mode's number is 0 for exact, 1 for restricted and any other for relaxed.
 #[repr(C)]
-#[derive(Drop)]
+#[derive(Clone, Copy)]
 pub struct Question {
     pub page: u64,
     pub width: u64,
@@ -35,7 +37,7 @@ pub struct Question {
 
 // What a compile found. A flag is 1 or 0; a value whose flag is 0 is 0, and so is its path. Refused, all is 0.
 #[repr(C)]
-#[derive(Drop)]
+#[derive(Clone, Copy)]
 pub struct Found {
     pub exact: u64,
     pub has_best: u64,
@@ -54,7 +56,7 @@ pub struct Found {
 
 // A search as a host lends it: a path is held unless `held` is 0.
 #[repr(C)]
-#[derive(Drop)]
+#[derive(Clone, Copy)]
 pub struct HostSearch {
     pub best: i64,
     pub held: u64,
@@ -65,7 +67,7 @@ pub struct HostSearch {
 
 // A job's answer: the first `count` bytes. Those behind them are 0, and so is `end`, so that the text is a C string too.
 #[repr(C)]
-#[derive(Drop)]
+#[derive(Clone, Copy)]
 pub struct Page {
     pub count: usize,
     pub bytes: [u8; 671],

@@ -1,3 +1,2 @@
--- What a host is promised, from what is promised below; and what the walks through its calls share.
+-- What a host is promised, from what is promised below.
 pub mod Kept
-pub mod Walking

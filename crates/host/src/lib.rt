@@ -1,4 +1,6 @@
-// The library for C and Rust hosts: compile, start, pick and a job's run under C names, over lent slices and structs of plain numbers.
+// The calls for hosts: compile, start, pick and a job's run, over lent slices and structs of plain numbers. `host_c` exports them under the same names to C.
+#![tactic(auto)]
+
 ghost use Rattle.records.specs.Structs.{places};
 ghost use Rattle.calls.specs.Compile.{compile};
 ghost use Rattle.searches.specs.Start.{start};
@@ -15,8 +17,7 @@ use border::{Found, HostSearch, Page, Question, Terms};
 use records::Record;
 
 // Compiles a record: `found` is written, accepted or refused. The list of drained records is words, as the tables are.
-#[unsafe(no_mangle)]
-pub extern "C" fn jambtulip_compile(
+pub fn jambtulip_compile(
     weights: &[u64],
     profits: &[u64],
     nodes: &mut [u64],
@@ -37,8 +38,7 @@ pub extern "C" fn jambtulip_compile(
 }
 
 // Starts a search: its root stands in the list's first place. A refused start changes nothing.
-#[unsafe(no_mangle)]
-pub extern "C" fn jambtulip_start(
+pub fn jambtulip_start(
     weights: &[u64],
     profits: &[u64],
     terms: Terms,
@@ -58,8 +58,7 @@ pub extern "C" fn jambtulip_start(
 }
 
 // Picks the open record in that place of the list. A refused pick leaves search and list as they were.
-#[unsafe(no_mangle)]
-pub extern "C" fn jambtulip_pick(
+pub fn jambtulip_pick(
     weights: &[u64],
     profits: &[u64],
     nodes: &mut [u64],
@@ -86,8 +85,7 @@ pub extern "C" fn jambtulip_pick(
 }
 
 // Answers a job's text: `page` is written, accepted or refused.
-#[unsafe(no_mangle)]
-pub extern "C" fn jambtulip_run_job(
+pub fn jambtulip_run_job(
     text: &[u8],
     nodes: &mut [u64],
     edges: &mut [u64],
