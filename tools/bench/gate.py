@@ -1,11 +1,12 @@
 #!/usr/bin/env python3
-"""gate.py LOG: the gate's time, crate by crate, as a Markdown table, from what `.ci/run` wrote to LOG. Run it at the repository's top.
+"""gate.py LOG: what the gate proved and tried, crate by crate, as a Markdown table, from what `.ci/run` wrote to LOG. Run it at the repository's top.
 
-Lines that aren't empty, of code (src), definitions and promises (specs) and proofs; must-fail edits; seconds of the check and, on average, of an edit.
+Lines that aren't empty, of code (src), definitions and promises (specs) and proofs; must-fail edits that were refused. `rt ci` says no seconds.
 """
 import pathlib
 import re
 import sys
+from collections import Counter
 
 
 def lines(crate, part):
@@ -15,18 +16,15 @@ def lines(crate, part):
 
 def main(log):
     text = pathlib.Path(log).read_text(encoding="utf-8")
-    seconds = dict(re.findall(r"(?m)^rt: (\w+) proved \((\d+) s\)$", text))
-    edits = {}
-    for crate, took in re.findall(r"(?m)^rt: must-fail (\w+)/.*?(\d+) s\)$", text):
-        edits.setdefault(crate, []).append(int(took))
+    proved = re.findall(r"(?m)^rt: (\w+) (?:proved$|is kept: )", text)
+    edits = Counter(re.findall(r"(?m)^rt: must-fail (\w+)/\S+: refused", text))
     total = [0] * 4
-    print("| Crate | Code | Definitions | Proofs | Edits | Seconds | Seconds of an edit |\n|---|---|---|---|---|---|---|")
-    for crate, took in seconds.items():
-        tried = edits.get(crate, [])
-        row = [lines(crate, part) for part in ("src", "specs", "proofs")] + [len(tried)]
+    print("| Crate | Code | Definitions | Proofs | Edits |\n|---|---|---|---|---|")
+    for crate in proved:
+        row = [lines(crate, part) for part in ("src", "specs", "proofs")] + [edits[crate]]
         total = [a + b for a, b in zip(total, row)]
-        print(f"| `{crate}` | {' | '.join(f'{n:,}' for n in row)} | {took} | {round(sum(tried) / len(tried)) if tried else '–'} |")
-    print(f"| all {len(seconds)} | {' | '.join(f'{n:,}' for n in total)} | {sum(map(int, seconds.values())):,} | |")
+        print(f"| `{crate}` | {' | '.join(f'{n:,}' for n in row)} |")
+    print(f"| all {len(proved)} | {' | '.join(f'{n:,}' for n in total)} |")
 
 
 if __name__ == "__main__":

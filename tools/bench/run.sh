@@ -1,7 +1,7 @@
 #!/usr/bin/env bash
 # Builds the benchmark outside the repository, runs it, and prints its two tables; README.md says how to read them.
 #
-# JAMBTULIP_LIB names the folder of libhost.a; without it, target/staticlib, and `rt staticlib host` makes the archive if it isn't there.
+# JAMBTULIP_LIB names the folder of libhost.a; without it, target/staticlib, and tools/hosts/archive.sh makes the archive if it isn't there.
 # BENCH_DIR names the build folder; without it, jambtulip-bench below TMPDIR.
 set -euo pipefail
 
@@ -22,7 +22,7 @@ copy_sources() {
 main() {
   [ "$(uname -m)" = x86_64 ] || { echo "run.sh: a time says something only where x86-64 code runs natively" >&2; exit 2; }
   mkdir -p "$build"
-  [ -f "$JAMBTULIP_LIB/libhost.a" ] || (cd "$root" && rt staticlib host) >&2
+  [ -f "$JAMBTULIP_LIB/libhost.a" ] || "$tools/hosts/archive.sh" "$JAMBTULIP_LIB"
   ORACLE_BUILD_DIR=$build/oracle "$tools/oracle/build.sh" >&2
   copy_sources
   cargo build --release --quiet --config "$build/oracle/.cargo/config.toml" --manifest-path "$build/bench/Cargo.toml" --target-dir "$build/target"

@@ -64,7 +64,7 @@ class Run:
             due, ways = answer_due(text, sizes), WAYS
             if due is None:
                 # the fast builds' answers must be the same
-                due, ways = written(self.builds / f"{name}.proved", text, PATIENCE), ("O3",)
+                due, ways = written(self.builds / f"{name}.proved", text, PATIENCE), ("rattle",)
                 self.figures["texts too long for the model, in the fast builds alone"] += 1
             if due.startswith(b"no end"):
                 self.figures["of these, without an answer in time"] += 1

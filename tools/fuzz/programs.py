@@ -4,7 +4,7 @@ import pathlib
 import select
 import subprocess
 
-WAYS = "proved", "O0", "O3", "checked"
+WAYS = "proved", "O0", "rattle", "checked"
 LIMIT = int(os.environ.get("FUZZ_LIMIT", 60))  # seconds of a run
 MOST_FINDINGS = int(os.environ.get("FUZZ_MOST", 20))  # a fuzzer ends with so many
 

@@ -71,11 +71,11 @@ try() { # SCRIPT BUILD [WORDS...]
     done
 }
 
-try jobs page.O3
+try jobs page.rattle
 try jobs page.guided
-try compiles replay.O3 "$oracle"
+try compiles replay.rattle "$oracle"
 try compiles replay.guided "$oracle"
-try picks search_replay.O3
+try picks search_replay.rattle
 try picks search_replay.guided
 echo "$passed passed, $failed failed"
 [ "$failed" -eq 0 ]

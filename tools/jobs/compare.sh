@@ -7,8 +7,7 @@ here=$(cd "$(dirname "${BASH_SOURCE[0]}")" && pwd)
 program=${JOB_PROGRAM:-}
 
 if [ -z "$program" ]; then
-  (cd "$here/../.." && rt check page) >&2
-  program=$here/../../target/bin/page
+  program=$("$here/../program.sh" page)
 fi
 python3 "$here/job.py"
 exec python3 "$here/compare.py" "$program" "${1:-2000}" "${2:-1}"

@@ -1,5 +1,5 @@
 #!/usr/bin/env bash
-# Runs a sample of jobs on the interpreter and compiled at -O0, at -O3 and with the compiler's assumptions checked: tries.sh [COUNT [SEED]].
+# Runs a sample of jobs by `rt try`, compiled with checks and, where it can, on the interpreter: tries.sh [COUNT [SEED]].
 # It works in a copy of the crates, where page_cases has other jobs. Exit status 1 if one answer isn't the model's.
 set -euo pipefail
 
@@ -7,5 +7,6 @@ here=$(cd "$(dirname "${BASH_SOURCE[0]}")" && pwd)
 top=$(cd "$here/../.." && pwd)
 copy=$(mktemp -d)
 trap 'rm -rf "$copy"' EXIT
-cp -R "$top/crates" "$top/crates.txt" "$copy"
+cp "$top/crates.txt" "$copy"
+(cd "$top" && tar --exclude=out/incremental --exclude=must-fail -cf - crates) | tar -xf - -C "$copy"
 python3 "$here/tries.py" "$copy" "${1:-200}" "${2:-1}"

@@ -10,11 +10,11 @@ import time
 from typing import NamedTuple
 
 TOP = pathlib.Path(__file__).resolve().parents[2]
-NAME_GONE = re.compile(r"that can be named from here|has no field|not in scope")
+NAME_GONE = re.compile(r"that can be named from here|has no field|has no `|not in scope|not the name of a")
 BY_HAND = re.compile(r"walk(ed)? by hand")
 PROGRAMS = "page_cases", "search_replay", "replay"  # those whose stored output holds many answers
-PROVED = "rlib", "stamp", "log"  # the parts of target/ that say what is proved
-FOLLOWS = "was not admitted"  # an error that only says that another one was before it
+FOLLOWS = re.compile(r"was not admitted|declarations? that depends? on")  # an error that only says that another one was before it
+FAULTS = 4, 5  # what `rt try` ends with where the program met a fault, or where its two runs differ
 
 
 class Verdict(NamedTuple):
@@ -31,7 +31,7 @@ class Verdict(NamedTuple):
 def leans():
     """What each crate leans on, each behind those."""
     lines = (line.split("#")[0].partition(":") for line in (TOP / "crates.txt").read_text().splitlines())
-    return {name: others.split() for name, colon, others in lines if colon}
+    return {name.split()[0]: others.split() for name, colon, others in lines if colon}
 
 
 def dependents(crate):
@@ -54,54 +54,64 @@ def file_is_code(file):
 
 
 def errors_of(said):
-    return [line for line in said.splitlines() if ": error" in line and FOLLOWS not in line]
+    return [line for line in said.splitlines() if ": error" in line and not FOLLOWS.search(line)]
 
 
-def run(folder, *words):
-    done = subprocess.run(["rt", *words], cwd=folder, stdout=subprocess.PIPE, stderr=subprocess.STDOUT, text=True)
+def check(folder, crate):
+    done = subprocess.run(["rt", "check"], cwd=folder / "crates" / crate, stdout=subprocess.PIPE, stderr=subprocess.STDOUT, text=True)
     return done.returncode, done.stdout
 
 
-def is_text(error):
-    """Whether an error says only that a proof doesn't fit the code's text. A walk by hand follows it step by step, and says so at its head."""
-    file = pathlib.Path(error.split(":")[0])
+def is_text(error, folder):
+    """Whether an error says only that a proof doesn't fit the code's text. A walk by hand follows it step by step, and says so at its head.
+    The error names a file of the crate whose folder that is."""
+    file = folder / error.split(":")[0]
     head = next((f for f in (file, file.parent.with_suffix(".antt")) if f.name == "Proof.antt" and f.exists()), None)
     return bool(NAME_GONE.search(error) or head and BY_HAND.search(head.read_text().splitlines()[0]))
+
+
+def writes_else(crate):
+    """Whether a program, compiled without proof, meets a fault or writes something else than its stored output. The crate's folder has what it is run on."""
+    words = (crate / "args").read_text().split() if (crate / "args").exists() else []
+    data = [word for path in sorted((crate / "data").glob("*")) for word in ("--data", f"{path.name}={path}")]
+    given = (crate / "stdin").read_bytes() if (crate / "stdin").exists() else b""
+    done = subprocess.run(["rt", "try", *data, "--", *words], cwd=crate, input=given, stdout=subprocess.PIPE, stderr=subprocess.DEVNULL)
+    return done.returncode in FAULTS or done.returncode == 0 and done.stdout != (crate / "stdout").read_bytes()
 
 
 def run_unproved(folder, crate, errors):
     """Runs programs that lean on the crate, compiled without proof, until one writes something else than its stored output."""
     leaning = [program for program in PROGRAMS if program == crate or program in dependents(crate)]
     for program in leaning:
-        _, said = run(folder, "try", program)  # the interpreter may stop before the end; what was compiled doesn't
-        if "FAIL: the native program" in said:
+        if writes_else(folder / "crates" / program):
             return "wrong", [f"{program} writes something else"]
     return ("alike" if leaning else "text"), errors
 
 
-def told(code, said, file):
+def told(code, said, folder, crate, file):
     """What the checker's word means. A definition that doesn't type is refused in its own file."""
     if code == 0:
         return "accepted", []
     errors = errors_of(said)
     if code != 1 or "logic=not-proved" not in said:
         return "none", errors
-    if not file_is_code(file) and any(f"/{file}:" in e for e in errors):
+    own = folder / "crates" / crate
+    if not file_is_code(file) and any((own / e.split(":")[0]).resolve() == (folder / file).resolve() for e in errors):
         return "none", errors
-    return ("text" if errors and all(map(is_text, errors)) else "refused"), errors
+    return ("text" if errors and all(is_text(e, own) for e in errors) else "refused"), errors
 
 
 def judged(folder, crate, change, text, further):
-    """The verdict on a change that gives its file that text. What the quick check accepts is checked whole, and a program run; if `further`,
-    so are the crates of definitions and theorems that lean on it."""
+    """The verdict on a change that gives its file that text. What the check accepts is run in a program; if `further`, the crates of definitions
+    and theorems that lean on it are checked too."""
     path, since = folder / change.file, time.time()
     kept = path.read_text()
     path.write_text(text)
-    word, errors = told(*run(folder, "dev", crate), change.file)
+    word, errors = told(*check(folder, crate), folder, crate, change.file)
     if word == "text" and file_is_code(change.file):
         word, errors = run_unproved(folder, crate, errors)
-    if word == "accepted":
-        word, errors = asked_further(folder, [crate, *(theory_above(crate) if further else [])])
+    if word == "accepted" and further:
+        word, errors = asked_further(folder, theory_above(crate))
     if word == "accepted" and file_is_code(change.file) and run_unproved(folder, crate, [])[0] == "wrong":
         word = "loose"
     path.write_text(kept)
@@ -109,17 +119,12 @@ def judged(folder, crate, change, text, further):
 
 
 def asked_further(folder, crates):
-    """The first crate that is proved no more, or whose program writes something else than its stored output, decides."""
-    word, errors = "accepted", []
+    """The first crate that is proved no more decides."""
     for crate in crates:
-        code, said = run(folder, "check", crate)
+        code, said = check(folder, crate)
         if code:
-            word, errors = "refused", [f"in {crate}"] + errors_of(said)
-            break
-    for part in PROVED:  # what was proved before is put back
-        shutil.rmtree(folder / "target" / part)
-        shutil.copytree(TOP / "target" / part, folder / "target" / part)
-    return word, errors
+            return "refused", [f"in {crate}"] + errors_of(said)
+    return "accepted", []
 
 
 def work(folder, jobs, results):
@@ -137,14 +142,12 @@ def work(folder, jobs, results):
 
 
 def copies(room, count):
-    """Copies of the repository with what is proved of it, one for each worker."""
+    """Copies of the repository, one for each worker. `rt` begins there with what checks in the other copies on this machine kept."""
     for i in range(count):
         folder = pathlib.Path(room) / str(i)
         folder.mkdir()
-        shutil.copytree(TOP / "crates", folder / "crates", ignore=shutil.ignore_patterns("must-fail"))
+        shutil.copytree(TOP / "crates", folder / "crates", ignore=shutil.ignore_patterns("must-fail", "incremental"))
         shutil.copy(TOP / "crates.txt", folder)
-        for part in PROVED:
-            shutil.copytree(TOP / "target" / part, folder / "target" / part)
         yield folder
 
 

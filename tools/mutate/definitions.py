@@ -9,12 +9,10 @@ from change import Change, alike, at_each, counted_on
 
 WORDS = {"leb": "ltb", "ltb": "leb", "true": "false", "false": "true", "take": "drop", "drop": "take"}
 SIGNS = {" + ": " - ", " - ": " + ", " * ": " + ", " && ": " || ", " || ": " && ", " ≤ ": " < ", " < ": " ≤ ", " <ℤ ": " ≤ℤ ", " ≤ℤ ": " <ℤ "}
-HOME = {"leb": "lib.Dec", "ltb": "lib.Dec", "take": "lib.ListN", "drop": "lib.ListN", "_+_": "Prim.Native.Nat", "_-_": "Prim.Native.Nat", "_<_": "Prim.Native.Nat",
-        "_≤_": "Prim.Native.Nat", "_&&_": "mathlib.Core.Bool", "_||_": "mathlib.Core.Bool", "_<ℤ_": "lib.Signed", "_≤ℤ_": "lib.Signed",
-        "true": "mathlib.Core.Bool", "false": "mathlib.Core.Bool"}
+HOME = "Rattle.std.specs.Prelude"  # where the words and operators of both tables are
 COMPUTED = {"Figures", "Starred", "Traps", "Refusals", "Lib"}
 NAME = r"[^\s(){}\[\];,:.λ|]+"
-ATOM = rf"(?:{NAME}|\([^()]*(?:\([^()]*(?:\([^()]*\)[^()]*)*\)[^()]*)*\))"
+ATOM = rf"(?:{NAME}|\([^()]*(?:\([^()]*(?:\([^()]*\)[^()]*)*\)[^()]*)*\))(?:\.{NAME})*"
 
 
 def alike_fields(top):
@@ -24,7 +22,7 @@ def alike_fields(top):
 
 
 def other_fields(line, fields):
-    for field in re.finditer(rf"(?<= \.)({NAME})", line):
+    for field in re.finditer(rf"(?<=[\w)]\.)({NAME})", line):
         for other in sorted(fields.get(field.group(1), ())):
             yield line[:field.start()] + other + line[field.end():]
 
@@ -38,7 +36,7 @@ def one_less(line):
 def swapped(line, variables):
     """Two variables beside each other, the branches of a `cond` or of a match on truth, the sides of ++, - or a comparison."""
     for pattern, keep in (
-        (rf"(?<![\w.])({NAME})( )({NAME})(?![\w·])", lambda a, b: a in variables and b in variables),
+        (rf"(?<![\w.])({NAME})( )({NAME})(?![\w·.])", lambda a, b: a in variables and b in variables),
         (rf"(?<=\bcond )({ATOM})( )({ATOM})(?= {ATOM})", None),
         (rf"(?<![\w.])({ATOM})( (?:\+\+|-|≤|<|<ℤ|≤ℤ) )({ATOM})", None),
     ):
@@ -66,11 +64,11 @@ def changed(line, variables, fields):
 
 def used(text, new):
     """The text with what the changed line needs of the libraries named at its head."""
-    needs = [w for w in re.findall(NAME, new) if w in HOME] + [f"_{s}_" for s in re.findall(r" (\+|-|<|≤|&&|\|\||<ℤ|≤ℤ) ", new)]
+    needs = [w for w in re.findall(NAME, new) if w in WORDS] + [f"◌{s}◌" for s in re.findall(r" (\+|-|<|≤|&&|\|\||<ℤ|≤ℤ) ", new)]
     head = "\n".join(line for line in text.splitlines() if line.startswith("use "))
     for need in dict.fromkeys(needs):
         if not re.search(rf"[{{ ]{re.escape(need)}[,}}]", head):
-            text = f"use {HOME[need]}.{{{need}}}\n" + text
+            text = f"use {HOME}.{{{need}}}\n" + text
     return text
 
 

@@ -4,7 +4,7 @@ small wrong programs, or with --definitions about small wrong definitions.
 
 A change is of one line and keeps the shape of the code (programs.py) or of the definition (definitions.py). Of each function, constant or
 definition of the named crates, or of all, N changes are tried (1 if it isn't said, all of them if N is 0), but of no crate more than M names;
-the same seed chooses the same. The changed crate is checked in a copy of the repository, which has to be proved (rt prove), and a
+the same seed chooses the same. The changed crate is checked in a copy of the repository, which has to be proved (rt all check), and a
 program is run. A line for each change that is accepted, and for each that is refused only because a proof's text no longer fits, both with
 what programs that lean on it write when they are run without proof, something wrong or what they should; last the counts. A change that
 is no Rattle or doesn't type is not counted. FILE gets a line for each change.

@@ -12,9 +12,8 @@ if [ $# -eq 0 ]; then
   cd "$here/edits"
   set -- *
 fi
-cp -r "$repository/crates" "$repository/crates.txt" "$scratch/"
-[ ! -d "$repository/target" ] || cp -r "$repository/target" "$scratch/"
-rm -rf "$scratch"/crates/*/must-fail
+cp "$repository/crates.txt" "$scratch/"
+(cd "$repository" && tar --exclude=out/incremental --exclude=must-fail -cf - crates) | tar -xf - -C "$scratch"
 for crate; do
   cp -r "$here/edits/$crate" "$scratch/crates/$crate/must-fail"
 done

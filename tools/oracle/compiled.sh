@@ -11,8 +11,7 @@ state=${COMPILED_DIR:-${TMPDIR:-/tmp}/jambtulip-compiled}
 program=${REPLAY_PROGRAM:-}
 
 if [ -z "$program" ]; then
-  (cd "$here/../.." && rt check replay) >&2
-  program=$here/../../target/bin/replay
+  program=$("$here/../program.sh" replay)
 fi
 oracle=$("$here/build.sh")
 mkdir -p "$state"

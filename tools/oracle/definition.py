@@ -42,7 +42,7 @@ def crates_below(crates, name):
 
 def copy_definitions(crate, copy):
     """Definitions, and what makes them compute, without code and laws: a law that an edit breaks would end the check before the statements."""
-    put(copy / "src" / "lib.rt", "// Definitions alone.\n")
+    put(copy / "src" / "lib.rt", "// Definitions alone.\n#![tactic(auto)]\n")
     shutil.copytree(crate / "specs", copy / "specs")
     computing = crate / "proofs" / "Computing.antt"
     if computing.exists():
@@ -53,7 +53,7 @@ def copy_definitions(crate, copy):
 def write_statements(crate, statements):
     texts = list(statements.values())
     parts = {f"Part{k // TO_A_FILE + 1:02}": texts[k:k + TO_A_FILE] for k in range(0, len(texts), TO_A_FILE)}
-    put(crate / "src" / "lib.rt", "// Statements alone: compiles, with what the Rust or document 01's table makes of them.\n")
+    put(crate / "src" / "lib.rt", "// Statements alone: compiles, with what the Rust or document 01's table makes of them.\n#![tactic(auto)]\n")
     put(crate / "specs" / "Lib.antt", "-- Short forms.\npub mod Forms\n")
     put(crate / "specs" / "Forms.antt", FORMS)
     put(crate / "proofs" / "Lib.antt", "-- The statements.\n" + "".join(f"pub mod {name}\n" for name in parts))
@@ -65,8 +65,7 @@ def prepare(crates, scratch, statements):
     """Makes the scratch repository anew: the crate `compared`, and the definition of `compile` with all below it."""
     if (scratch / "crates").exists() and not (scratch / "crates" / "compared").exists():
         sys.exit(f"definition.py: {scratch} holds other crates")
-    for folder in "crates", "target":
-        shutil.rmtree(scratch / folder, ignore_errors=True)
+    shutil.rmtree(scratch / "crates", ignore_errors=True)
     order = crates_below(crates, "calls")
     write_statements(scratch / "crates" / "compared", statements)
     for name in order:
@@ -93,10 +92,10 @@ def check(scratch):
     A check that fails in any other way says nothing about the statements, and ends the program.
     """
     start = time.monotonic()
-    done = subprocess.run(["rt", "check", "compared"], cwd=scratch, stdout=subprocess.PIPE, stderr=subprocess.STDOUT, text=True)
+    done = subprocess.run(["rt", "check"], cwd=scratch / "crates" / "compared", stdout=subprocess.PIPE, stderr=subprocess.STDOUT, text=True)
     errors = re.findall(r"(\w+\.antt):\d+:\d+: error: `(s\d+)`: .*\n *(.*)", done.stdout)
     refused = {name: f"{file}: {says[:300]}" for file, name, says in errors}
-    proved = done.returncode == 0 and "rt: compared proved" in done.stdout
+    proved = done.returncode == 0 and "logic=proved" in done.stdout
     if proved != (not refused):
         sys.exit(f"{done.stdout}\ndefinition.py: the check failed, and not by a statement")
     return refused, time.monotonic() - start

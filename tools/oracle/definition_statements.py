@@ -6,16 +6,13 @@ CUTS = {"lel": "lastExactLayer", "frontier": "frontier"}
 
 # Short forms for what a compile is asked, answers and leaves.
 FORMS = """-- Short forms for what a compile is asked, answers and leaves.
-use mathlib.Core.Bool.{Bool}
-use mathlib.Core.List.{List}
-use mathlib.Core.Option.{Option}
-use Prim.Native.Nat.{ℕ}
-use lib.IntN.{ℤ}
-use Rattle·diagram.specs.Tables.{Range}
-use Rattle·diagram.specs.Run.{Mode}
-use Rattle·diagram.specs.After4.{CutsetKind}
-use Rattle·calls.specs.Asked.{Given}
-use Rattle·calls.specs.Compile.{Request, Lent, Answer, compiled, After}
+use Rattle.std.specs.Prelude.{Bool, List, ℕ, ℤ}
+use Rattle.std.proofs.Math.Option.{Option}
+use Rattle.diagram.specs.Tables.{Range}
+use Rattle.diagram.specs.Run.{Mode}
+use Rattle.diagram.specs.After4.{CutsetKind}
+use Rattle.calls.specs.Asked.{Given}
+use Rattle.calls.specs.Compile.{Request, Lent, Answer, compiled, After}
 
 abbrev pub given : ℕ → ℤ → ℤ → ℕ → List ℕ → Given
 given capacity value bound depth path = record { capacity = capacity; value = value; bound = bound; depth = depth; path = path }
@@ -34,16 +31,16 @@ abbrev pub range : ℕ → ℕ → Range
 range lo hi = record { lo = lo; hi = hi }
 
 abbrev pub found : Bool → Option ℤ → List ℕ → Option ℤ → List ℕ → ℕ → ℕ → ℕ → List Range → Answer
-found exact best path bestExact exactPath nodeCount edgeCount drainedCount layers =
+found exact best path best_exact exact_path node_count edge_count drained_count layers =
     compiled (record {
       exact = exact;
       best = best;
       path = path;
-      bestExact = bestExact;
-      exactPath = exactPath;
-      nodeCount = nodeCount;
-      edgeCount = edgeCount;
-      drainedCount = drainedCount;
+      best_exact = best_exact;
+      exact_path = exact_path;
+      node_count = node_count;
+      edge_count = edge_count;
+      drained_count = drained_count;
       layers = layers;
     })
 
@@ -56,16 +53,16 @@ left answer lent = record { answer = answer; lent = lent }
 
 # The first lines of each file of statements.
 HEAD = """-- Compiles that antt has to compute, each as the Rust or document 01's table has it.
-use mathlib.Core.Path.{_≡_, refl}
+use mathlib.Core.Path.{◌≡◌, refl}
 use mathlib.Core.Bool.{true, false}
-use mathlib.Core.List.{[], _∷_}
+use mathlib.Core.List.{[], ◌∷◌}
 use mathlib.Core.Option.{none, some}
 use lib.IntN.{pos, negsuc}
-use Rattle·diagram.specs.Run.{exactly, restricted, relaxing}
-use Rattle·diagram.specs.After4.{lastExactLayer, frontier}
-use Rattle·calls.specs.Compile.{refused, compile}
-use Rattle·calls.proofs.Computing.{computing}
-use Rattle·compared·specs.specs.Forms.{given, ask, range, found, lent, left}
+use Rattle.diagram.specs.Run.{exactly, restricted, relaxing}
+use Rattle.diagram.specs.After4.{lastExactLayer, frontier}
+use Rattle.calls.specs.Compile.{refused, compile}
+use Rattle.calls.proofs.Computing.{computing}
+use Rattle.compared.specs.Forms.{given, ask, range, found, lent, left}
 """
 
 

@@ -76,14 +76,14 @@ NAMES = {
     "given": lambda *fields: Record(*fields[:4], tuple(fields[4])),
     "root": root_record,
     "ask": ask,
-    "askT": lambda width, mode, kind, lower, start: ask([1] * 3, [4, 3, 2], 2, width, mode, kind, lower, start),
-    "fromRoot": lambda weights, profits, page, width: ask(weights, profits, page, width, "exact", "lel", I64_MIN, root_record(page)),
-    "fromRecord": lambda weights, profits, page, width, start: ask(weights, profits, page, width, "exact", "lel", I64_MIN, start),
+    "ask_t": lambda width, mode, kind, lower, start: ask([1] * 3, [4, 3, 2], 2, width, mode, kind, lower, start),
+    "from_root": lambda weights, profits, page, width: ask(weights, profits, page, width, "exact", "lel", I64_MIN, root_record(page)),
+    "from_record": lambda weights, profits, page, width, start: ask(weights, profits, page, width, "exact", "lel", I64_MIN, start),
     "empties": lambda count: ask([0] * count, [0] * count, 0, 1, "exact", "lel", 0, root_record(0)),
     "old": lambda first, count: (first, count),
     "lend": lambda nodes, edges, records: (nodes or (0, 0), edges or (0, 0), records or (0, 0)),
 }
-LENT_FEW = ((101, 29), (201, 13), (301, 70))  # `lentFew` of Figures.antt
+LENT_FEW = ((101, 29), (201, 13), (301, 70))  # `lent_few` of Figures.antt
 
 
 def meaning(parsed, names):
@@ -105,12 +105,12 @@ def parts_of(head, mean):
     if head == "case":
         *asked, page = mean(6)
         return ask_items(*asked, root_record(page)), None
-    if head == "caseFrom":
+    if head == "case_from":
         return ask_items(*mean(6)), None
     if head == "lent":
         nodes, edges, *asked, page = mean(8)
         return ask_items(*asked, root_record(page)), rooms(nodes, edges)
-    if head == "lentFrom":
+    if head == "lent_from":
         nodes, edges, *asked = mean(8)
         return ask_items(*asked), rooms(nodes, edges)
     if head == "call":

@@ -101,7 +101,8 @@ STEP = re.compile(r"(?<=[\w'-]\.)([\w'-]+)")
 
 
 def antt(text, table, path, functions, fields):
-    mine = {w: n for w, n in table.items() if w not in foreign(code_of(text))}
+    others = foreign(code_of(text))
+    mine = {w: n for w, n in table.items() if w not in others}
     mine |= next((words for end, words in APART_IN.items() if path.endswith(end)), {})
     if re.search(r"/proofs/[^/]+/", path):
         kept = {w for w in STEP.findall(text) if w in mine and (w in functions or w not in fields)}
@@ -123,7 +124,8 @@ def block_end(text, at):
 
 
 def rt(text, table):
-    mine = {w: n for w, n in table.items() if w not in foreign(text)}
+    others = foreign(text)
+    mine = {w: n for w, n in table.items() if w not in others}
     out, at = [], 0
     for m in re.finditer(r"//[^\n]*|\bghost use [^;]*;|" + CLAUSE.pattern, text):
         if m.start() < at:
@@ -179,12 +181,13 @@ def main(args):
     source, to = option(args, "--table"), option(args, "--write-table")
     (root,) = args
     if source:
-        table = dict(line.rstrip("\n").split("\t") for line in open(source, encoding="utf-8"))
+        table = dict(line.rstrip("\n").split("\t") for line in open(source, encoding="utf-8") if not line.startswith("# "))
     else:
         table, declared = table_of(root)
         looked(root, table, declared)
     if to:
         with open(to, "w", encoding="utf-8") as f:
+            f.write("# The repository's own words before and after respell.py: old, tab, new.\n")
             f.writelines(f"{o}\t{n}\n" for o, n in table.items())
     if "--look" in os.environ.get("RESPELL", ""):
         return

@@ -8,7 +8,6 @@ here=$(cd "$(dirname "${BASH_SOURCE[0]}")" && pwd)
 program=${SEARCH_REPLAY_PROGRAM:-}
 
 if [ -z "$program" ]; then
-  (cd "$here/../.." && rt check search_replay) >&2
-  program=$here/../../target/bin/search_replay
+  program=$("$here/../program.sh" search_replay)
 fi
 exec python3 "$here/compare.py" "$program" "${1:-1000}" "${2:-1}"
