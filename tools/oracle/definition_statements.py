@@ -2,7 +2,7 @@
 from definition_cases import line_of, padded
 
 MODES = {"exact": "exactly", "restricted": "restricted", "relaxed": "relaxing"}
-CUTS = {"lel": "lastExactLayer", "frontier": "frontier"}
+CUTS = {"lel": "last_exact_layer", "frontier": "frontier"}
 
 # Short forms for what a compile is asked, answers and leaves.
 FORMS = """-- Short forms for what a compile is asked, answers and leaves.
@@ -59,7 +59,7 @@ use mathlib.Core.List.{[], ◌∷◌}
 use mathlib.Core.Option.{none, some}
 use lib.IntN.{pos, negsuc}
 use Rattle.diagram.specs.Run.{exactly, restricted, relaxing}
-use Rattle.diagram.specs.After4.{lastExactLayer, frontier}
+use Rattle.diagram.specs.After4.{last_exact_layer, frontier}
 use Rattle.calls.specs.Compile.{refused, compile}
 use Rattle.calls.proofs.Computing.{computing}
 use Rattle.compared.specs.Forms.{given, ask, range, found, lent, left}

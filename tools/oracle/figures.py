@@ -64,7 +64,7 @@ NAMES = {
     "exactly": "exact",
     "restricted": "restricted",
     "relaxing": "relaxed",
-    "lastExactLayer": "lel",
+    "last_exact_layer": "lel",
     "frontier": "frontier",
     "lowest": I64_MIN,
     "highest": I64_MAX,

@@ -18,6 +18,8 @@ WORD = r'[^\s(){}.;,@"«»]+'
 DECLARED = re.compile(rf"^( *)((?:(?:pub|abbrev|unfoldable|record|data|mutual) )*)({WORD})(?: [({{].*)? :(?: |$)", re.M)
 USE = re.compile(r"\buse ([^\s;{]+?)(?:\.\{([^;}]*)\}|(?: as (\S+))?;?[ \t]*$)", re.M)
 CLAUSE = re.compile(r"\b(?:requires|ensures)\s*\*?\s*(?:\w+\s*)?\{|\bghost\s*(?:\w+\s*[:=]\s*)?\{")
+# Constructors, which a line declares two at a time, and variables that definitions bind.
+BOUND = "lastExactLayer stoppedAt bestValue exactOnly recordRoom parentExact compileComputing diagramComputing roomE roomN".split()
 # Lemmas and statements that would get the name of a function or a field.
 APART = {
     w: w.replace("-", "_") + "_lem"
@@ -74,7 +76,7 @@ def table_of(root):
             word = m[3]
             if kept and (spelled(word) != word) and re.fullmatch(r"[\w'-]+", word) and not word.startswith("-"):
                 declared[word].add(os.path.relpath(path, root))
-    return {word: APART.get(word, spelled(word)) for word in sorted(declared)}, declared
+    return {word: APART.get(word, spelled(word)) for word in sorted({*declared, *BOUND})}, declared
 
 
 def foreign(code):

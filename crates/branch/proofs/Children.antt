@@ -85,12 +85,12 @@ made_held : (d : Diagram) (old_n old_e cs es : List ℕ) (p decision cost : ℕ)
     → NodeWritten cs (length d.nodes - d.start) x cs'
     → EdgeWritten es (length d.edges) (record { from = p; to = length d.nodes; decision = decision; cost = cost; next = 0 }) es'
     → ComingHeld (push_edge p (length d.nodes) decision cost (push_node ch d)) old_n old_e cs' es'
-made_held d old_n old_e cs es p decision cost ch x cs' es' held h inp z roomN roomE e wn we =
+made_held d old_n old_e cs es p decision cost ch x cs' es' held h inp z room_n room_e e wn we =
     let l : length (drop d.start d.nodes) ≡ length d.nodes - d.start = length-drop d.start d.nodes in
     let r : suc (length d.nodes - d.start) * node_words ≤ length (drop (d.start * node_words) old_n) = simp length-drop (omega arith) in
     record {
       coming_are = wn.appended (drop d.start d.nodes) (drop (d.start * node_words) old_n) held.coming_are (sym l) r ∙ rw (made_start p decision cost ch d, made_nodes p decision cost ch d inp, drop-append-le d.start d.nodes (landed d.nodes d.edges p cost ch ∷ []) h, e);
-      edges_are = we.appended d.edges old_e held.edges_are refl roomE ∙ rw (made_edges p decision cost ch d, z);
+      edges_are = we.appended d.edges old_e held.edges_are refl room_e ∙ rw (made_edges p decision cost ch d, z);
     }
 
 made_counts : (p decision cost : ℕ) (ch : Node) (d : Diagram) (k : Counts) → p < length d.nodes → k ≡ counts_of d → record { nodes = k.nodes + 1; edges = k.edges + 1 } ≡ counts_of (push_edge p (length d.nodes) decision cost (push_node ch d))

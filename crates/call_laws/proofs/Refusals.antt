@@ -9,7 +9,7 @@ use lib.ListN.{length}
 use Rattle.diagram.specs.Tables.{Diagram}
 use Rattle.diagram.specs.Run.{Mode, exactly, restricted, relaxing, Run, going, stopped}
 use Rattle.diagram.specs.After4.{CutsetKind}
-use Rattle.diagram.specs.After6.{Outcome, drained, Answer as Ran, refused as stoppedAt, finished, finish, run}
+use Rattle.diagram.specs.After6.{Outcome, drained, Answer as Ran, refused as stopped_at, finished, finish, run}
 use Rattle.theorems.proofs.Ten.{never_ten}
 use Rattle.theorems.proofs.Fits.{Stop, ten, eleven, twelve, FitRun, refusal, outcome_is, run_fits}
 use Rattle.calls.specs.Asked.{items_of, record_of}
@@ -25,11 +25,11 @@ use Rattle.call_laws.proofs.View.{View, early, halted, overfull, done, view}
 
 -- ---- a run stops with 10, 11 or 12
 
-stop_of_lem : (n : ℕ) (d : Diagram) (a b : ℕ) (x : Ran) → FitRun a b x → x ≡ stoppedAt n d → Stop n
+stop_of_lem : (n : ℕ) (d : Diagram) (a b : ℕ) (x : Ran) → FitRun a b x → x ≡ stopped_at n d → Stop n
 stop_of_lem n d a b x (refusal {n = k} s f) e = let q : k ≡ n = cc in subst (λ (i : ℕ). Stop i) q s
 stop_of_lem n d a b x (outcome_is f) e = let z : ◌≡◌ {A = ℕ} 0 1 = cc in absurd (omega arith)
 
-pub run_stop : (q : Request) (m : Rooms) (n : ℕ) (d : Diagram) → run_of q m ≡ stoppedAt n d → Stop n
+pub run_stop : (q : Request) (m : Rooms) (n : ℕ) (d : Diagram) → run_of q m ≡ stopped_at n d → Stop n
 unfolding run_of
 run_stop q m n d e = stop_of_lem n d _ _ (run_of q m) (run_fits (settings_of q m) q.kind (items_of q.problem.weights q.problem.profits) (record_of q.given)) e
 
@@ -44,13 +44,13 @@ run_stops q l n d e = which (run_stop q (rooms_of l) n d e)
 -- ---- the rows 10 to 13 of a run
 
 -- a run that stopped with k meets no row of another number
-other_stop : (q : Request) (m : Rooms) (n k : ℕ) (d : Diagram) → run_of q m ≡ stoppedAt k d → n ≢ k → ¬ ((e : Diagram) × (run_of q m ≡ stoppedAt n e))
+other_stop : (q : Request) (m : Rooms) (n k : ℕ) (d : Diagram) → run_of q m ≡ stopped_at k d → n ≢ k → ¬ ((e : Diagram) × (run_of q m ≡ stopped_at n e))
 other_stop q m n k d e h z = let w = z.1 in let y : n ≡ k = cc in h y
 
-pub finished_stop : (q : Request) (m : Rooms) (n : ℕ) (o : Outcome) → run_of q m ≡ finished o → ¬ ((e : Diagram) × (run_of q m ≡ stoppedAt n e))
+pub finished_stop : (q : Request) (m : Rooms) (n : ℕ) (o : Outcome) → run_of q m ≡ finished o → ¬ ((e : Diagram) × (run_of q m ≡ stopped_at n e))
 finished_stop q m n o e z = let w = z.1 in let y : ◌≡◌ {A = ℕ} 0 1 = cc in omega arith
 
-pub stop_row : (q : Request) (m : Rooms) (d : Diagram) {n : ℕ} → Stop n → run_of q m ≡ stoppedAt n d → First (run_rows q m) n
+pub stop_row : (q : Request) (m : Rooms) (d : Diagram) {n : ℕ} → Stop n → run_of q m ≡ stopped_at n d → First (run_rows q m) n
 stop_row q m d ten e = let s : Row10 q m = (d, e) in here s
 stop_row q m d eleven e = let s : Row11 q m = (d, e) in later (other_stop q m 10 11 d e (λ z. omega arith)) (here s)
 stop_row q m d twelve e =
@@ -126,12 +126,12 @@ early_number q n e = first_between 1 9 (numbers_1_to_9 q) ((refused_exactly q.pr
 
 -- ---- 10 in exact mode alone
 
-grown_stop : (m : Mode) (k : CutsetKind) (n : ℕ) (d : Diagram) (x : Run) → finish m k x ≡ stoppedAt n d → x ≡ stopped n d
+grown_stop : (m : Mode) (k : CutsetKind) (n : ℕ) (d : Diagram) (x : Run) → finish m k x ≡ stopped_at n d → x ≡ stopped n d
 unfolding finish
 grown_stop m k n d (going e) q = let z : ◌≡◌ {A = ℕ} 0 1 = cc in absurd (omega arith)
 grown_stop m k n d (stopped i e) q = let a : i ≡ n = cc in let b : e ≡ d = cc in cc
 
-pub not_ten : (q : Request) (m : Rooms) (d : Diagram) → compile_refusal q.problem q.given ≡ none → run_of q m ≡ stoppedAt 10 d → q.mode ≢ exactly → ⊥
+pub not_ten : (q : Request) (m : Rooms) (d : Diagram) → compile_refusal q.problem q.given ≡ none → run_of q m ≡ stopped_at 10 d → q.mode ≢ exactly → ⊥
 unfolding run_of settings_of run
 not_ten q m d c e h = never_ten (settings_of q m) (items_of q.problem.weights q.problem.profits) (record_of q.given) d h (accepted q.problem q.given c).narrow (grown_stop q.mode q.kind 10 d _ e)
 
@@ -145,7 +145,7 @@ unfolding effect
 ten_view q m (early n e) a = let z : n ≡ 10 = cc in absurd (omega (arith, early_number q n e))
 ten_view q m (halted n d e f) a =
     let z : n ≡ 10 = cc in
-    is_exact_lem q.mode (not_ten q m d e (f ∙ ap (λ (i : ℕ). stoppedAt i d) z))
+    is_exact_lem q.mode (not_ten q m d e (f ∙ ap (λ (i : ℕ). stopped_at i d) z))
 ten_view q m (overfull o e f h) a = let z : ◌≡◌ {A = ℕ} 13 10 = cc in absurd (omega arith)
 ten_view q m (done o e f h) a = let z : ◌≡◌ {A = ℕ} 0 1 = cc in absurd (omega arith)
 

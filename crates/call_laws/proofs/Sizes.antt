@@ -13,7 +13,7 @@ use Rattle.diagram.specs.Record.{Record, path_room}
 use Rattle.diagram.specs.Tables.{Diagram, Found, at, nowhere}
 use Rattle.diagram.specs.Run.{Mode, exactly, restricted, relaxing}
 use Rattle.diagram.specs.After4.{CutsetKind, no_cutset, cutset_for}
-use Rattle.diagram.specs.After6.{Outcome, outcome, drain_rows, drain_for, drained, Answer as Ran, refused as stoppedAt, finished, run}
+use Rattle.diagram.specs.After6.{Outcome, outcome, drain_rows, drain_for, drained, Answer as Ran, refused as stopped_at, finished, run}
 use Rattle.layout.specs.Table.{words_of, over}
 use Rattle.layout.specs.Rows.{node_words, edge_words, encode_node, encode_edge, node_table, edge_table}
 use Rattle.layout.specs.Records.{record_words, record_table}
@@ -99,7 +99,7 @@ drained_short q m o c e r i = let v = drained_valid q m o c e r i in omega (arit
 
 -- ---- rows
 
-stopped_fits : (a b n : ℕ) (d : Diagram) (x : Ran) → FitRun a b x → x ≡ stoppedAt n d → Fits a b d
+stopped_fits : (a b n : ℕ) (d : Diagram) (x : Ran) → FitRun a b x → x ≡ stopped_at n d → Fits a b d
 stopped_fits a b n d x (refusal {d = e} s f) q = let z : e ≡ d = cc in subst (λ (y : Diagram). Fits a b y) z f
 stopped_fits a b n d x (outcome_is f) q = let z : ◌≡◌ {A = ℕ} 0 1 = cc in absurd (omega arith)
 

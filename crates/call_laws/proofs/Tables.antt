@@ -8,7 +8,7 @@ use Rattle.diagram.specs.Node.{Edge, edge_at}
 use Rattle.diagram.specs.Record.{Record}
 use Rattle.diagram.specs.Tables.{Diagram}
 use Rattle.diagram.specs.Run.{Settings}
-use Rattle.diagram.specs.After6.{Outcome, drained, refused as stoppedAt, finished, run}
+use Rattle.diagram.specs.After6.{Outcome, drained, refused as stopped_at, finished, run}
 use Rattle.layout.specs.Table.{words_of, over}
 use Rattle.layout.specs.Rows.{node_table, edge_table}
 use Rattle.layout.specs.Records.{record_table}
@@ -136,10 +136,10 @@ held_rows : (q : Request) (l : Lent) (d : Diagram) → Held l (compile_effect q 
 unfolding compile
 held_rows q l d h = record { nodes = h.nodes; edges = h.edges }
 
-stopped_view : (q : Request) (l : Lent) (n : ℕ) {x : Effect} → View q (rooms_of l) x → x.answer ≡ refused n → 10 ≤ n → n ≤ 12 → (d : Diagram) × (run_of q (rooms_of l) ≡ stoppedAt n d) × Held l x d
+stopped_view : (q : Request) (l : Lent) (n : ℕ) {x : Effect} → View q (rooms_of l) x → x.answer ≡ refused n → 10 ≤ n → n ≤ 12 → (d : Diagram) × (run_of q (rooms_of l) ≡ stopped_at n d) × Held l x d
 unfolding effect
 stopped_view q l n (early k e) a h i = absurd (omega (arith, early_number q k e, same_number k n a))
-stopped_view q l n (halted k d e f) a h i = (d, f ∙ ap (λ (j : ℕ). stoppedAt j d) (same_number k n a), held_by (refused k) d [] l)
+stopped_view q l n (halted k d e f) a h i = (d, f ∙ ap (λ (j : ℕ). stopped_at j d) (same_number k n a), held_by (refused k) d [] l)
 stopped_view q l n (overfull o e f g) a h i = absurd (omega (arith, same_number 13 n a))
 stopped_view q l n (done o e f g) a h i = let z : ◌≡◌ {A = ℕ} 0 1 = cc in absurd (omega arith)
 

@@ -9,14 +9,14 @@ use lib.Dec.{leb}
 use lib.ListN.{length}
 use borrow.Author.Tests.{leb-true, leb-false}
 use Rattle.diagram.specs.Tables.{Diagram}
-use Rattle.diagram.specs.After6.{Outcome, drained, Answer as Ran, refused as stoppedAt, finished}
+use Rattle.diagram.specs.After6.{Outcome, drained, Answer as Ran, refused as stopped_at, finished}
 use Rattle.calls.specs.Refusals.{compile_refusal}
 use Rattle.calls.specs.Compile.{Request, Rooms, refused, compiled, compiled_of, Effect, effect, drain_into, effect_of, unless, compile_effect, run_of}
 
 -- the effect of a request in rooms m, one of four
 pub data View (q : Request) (m : Rooms) : Effect → Type 0 where
   early : (n : ℕ) → compile_refusal q.problem q.given ≡ some n → View q m (record { answer = refused n; nodes = []; edges = []; drained = [] })
-  halted : (n : ℕ) (d : Diagram) → compile_refusal q.problem q.given ≡ none → run_of q m ≡ stoppedAt n d → View q m (effect (refused n) d [])
+  halted : (n : ℕ) (d : Diagram) → compile_refusal q.problem q.given ≡ none → run_of q m ≡ stopped_at n d → View q m (effect (refused n) d [])
   overfull : (o : Outcome) → compile_refusal q.problem q.given ≡ none → run_of q m ≡ finished o → m.records < length (drained q.given.path o) → View q m (effect (refused 13) o.diagram [])
   done : (o : Outcome) → compile_refusal q.problem q.given ≡ none → run_of q m ≡ finished o → length (drained q.given.path o) ≤ m.records → View q m (effect (compiled (compiled_of q.given.path o)) o.diagram (drained q.given.path o))
 
@@ -27,7 +27,7 @@ drain_view q m o false c e t = overfull o c e (leb-false (length (drained q.give
 
 run_view : (q : Request) (m : Rooms) (x : Ran) → compile_refusal q.problem q.given ≡ none → run_of q m ≡ x → View q m (effect_of q.given.path m.records x)
 unfolding effect_of
-run_view q m (stoppedAt n d) c e = halted n d c e
+run_view q m (stopped_at n d) c e = halted n d c e
 run_view q m (finished o) c e = drain_view q m o _ c e refl
 
 whole_view : (q : Request) (m : Rooms) (c : Option ℕ) → compile_refusal q.problem q.given ≡ c → View q m (unless c (effect_of q.given.path m.records (run_of q m)))

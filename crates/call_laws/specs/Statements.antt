@@ -3,7 +3,7 @@ use Rattle.std.specs.Prelude.{◌≡◌, List, ◌⊎◌, ◌≢◌, ℕ, ◌≤
 use Rattle.diagram.specs.Node.{edge_at}
 use Rattle.diagram.specs.Tables.{Diagram}
 use Rattle.diagram.specs.Run.{exactly}
-use Rattle.diagram.specs.After6.{Outcome, drained, refused as stoppedAt, finished}
+use Rattle.diagram.specs.After6.{Outcome, drained, refused as stopped_at, finished}
 use Rattle.layout.specs.Table.{over}
 use Rattle.layout.specs.Rows.{node_table, edge_table}
 use Rattle.layout.specs.Records.{record_table}
@@ -31,7 +31,7 @@ CompiledExactly =
 -- A run stops with 10, 11 or 12 alone.
 abbrev pub RunStops : Type 0
 RunStops =
-    (q : Request) (l : Lent) (n : ℕ) (d : Diagram) → run_of q (rooms_of l) ≡ stoppedAt n d → (n ≡ 10) ⊎ ((n ≡ 11) ⊎ (n ≡ 12))
+    (q : Request) (l : Lent) (n : ℕ) (d : Diagram) → run_of q (rooms_of l) ≡ stopped_at n d → (n ≡ 10) ⊎ ((n ≡ 11) ⊎ (n ≡ 12))
 
 -- So compile refuses with 1 to 13 alone.
 abbrev pub CompileNumbers : Type 0
@@ -117,7 +117,7 @@ pub record HoldsRows (q : Request) (l : Lent) (d : Diagram) : Type 0 where
 -- At 10 to 12 'node and edge tables then hold what was written before'.
 abbrev pub StoppedHolds : Type 0
 StoppedHolds =
-    (q : Request) (l : Lent) (n : ℕ) → (compile q l).answer ≡ refused n → 10 ≤ n → n ≤ 12 → (d : Diagram) × (run_of q (rooms_of l) ≡ stoppedAt n d) × HoldsRows q l d
+    (q : Request) (l : Lent) (n : ℕ) → (compile q l).answer ≡ refused n → 10 ≤ n → n ≤ 12 → (d : Diagram) × (run_of q (rooms_of l) ≡ stopped_at n d) × HoldsRows q l d
 
 -- 'After 13 the tables hold the finished diagram.'
 abbrev pub ThirteenHolds : Type 0

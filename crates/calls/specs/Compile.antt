@@ -8,7 +8,7 @@ use Rattle.diagram.specs.Tables.{Range, Diagram, Found, at, nowhere}
 use Rattle.diagram.specs.Run.{Mode, Settings}
 use Rattle.diagram.specs.After3.{path_to}
 use Rattle.diagram.specs.After4.{CutsetKind}
-use Rattle.diagram.specs.After6.{Outcome, drained, Answer as Ran, refused as stoppedAt, finished, run}
+use Rattle.diagram.specs.After6.{Outcome, drained, Answer as Ran, refused as stopped_at, finished, run}
 use Rattle.layout.specs.Table.{over}
 use Rattle.layout.specs.Rows.{node_words, edge_words, node_table, edge_table}
 use Rattle.layout.specs.Records.{record_words, record_table}
@@ -106,8 +106,8 @@ drain_into false record_path o = effect (refused 13) o.diagram []
 
 -- For 10 to 12 'node and edge tables then hold what was written before'; the record list stays.
 unfoldable pub effect_of : List ℕ → ℕ → Ran → Effect
-effect_of record_path recordRoom (stoppedAt n d) = effect (refused n) d []
-effect_of record_path recordRoom (finished o) = drain_into (leb (length (drained record_path o)) recordRoom) record_path o
+effect_of record_path record_room (stopped_at n d) = effect (refused n) d []
+effect_of record_path record_room (finished o) = drain_into (leb (length (drained record_path o)) record_room) record_path o
 
 -- '1 to 9 … write nothing.'
 unfoldable pub unless : Option ℕ → Effect → Effect

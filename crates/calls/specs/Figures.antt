@@ -4,7 +4,7 @@ use Rattle.std.proofs.Math.Option.{Option, none, some}
 use Rattle.words.specs.I64.{i64_min, i64_max}
 use Rattle.diagram.specs.Tables.{Range}
 use Rattle.diagram.specs.Run.{Mode, exactly, restricted, relaxing}
-use Rattle.diagram.specs.After4.{CutsetKind, lastExactLayer, frontier}
+use Rattle.diagram.specs.After4.{CutsetKind, last_exact_layer, frontier}
 use Rattle.calls.specs.Asked.{Given}
 use Rattle.calls.specs.Compile.{Request, Lent, Answer, refused, compiled, After, compile}
 
@@ -145,7 +145,7 @@ call asked lent answer left = record { asked = asked; lent = lent; after = recor
 unfoldable pub calls : List Call
 calls =
     -- H: nine node rows, twelve edge rows and two records stand over what was there; the words behind them stay
-    call (ask_t 1 relaxing lastExactLayer lowest (root 2))
+    call (ask_t 1 relaxing last_exact_layer lowest (root 2))
     (lend (old 101 75) (old 201 63) (old 301 141))
     answer_h
     (lend (nodes_h ++ old 173 3) (edges_h ++ old 261 3) (record_row 1 w4 w9 1 (1 ∷ replicate 63 0) ++ record_row 2 w0 w5 1 (0 ∷ replicate 63 0) ++ old 437 5))
@@ -155,24 +155,24 @@ calls =
     answer_h
     (lend (nodes_h ++ old 173 3) (edges_h ++ old 261 3) (record_row 2 w0 w5 1 (0 ∷ replicate 63 0) ++ record_row 1 w4 w9 1 (1 ∷ replicate 63 0) ++ old 437 5))
     -- 13: H with room for one record, and 67 words more: the tables hold the finished diagram, the list stays
-    ∷ call (ask_t 1 relaxing lastExactLayer lowest (root 2))
+    ∷ call (ask_t 1 relaxing last_exact_layer lowest (root 2))
     (lend (old 101 75) (old 201 63) (old 301 135))
     (refused 13)
     (lend (nodes_h ++ old 173 3) (edges_h ++ old 261 3) (old 301 135))
     -- 11: H with two node rows, and 7 words more: what was written before stays
-    ∷ call (ask_t 1 relaxing lastExactLayer lowest (root 2))
+    ∷ call (ask_t 1 relaxing last_exact_layer lowest (root 2))
     (lend (old 101 23) (old 201 63) (old 301 3))
     (refused 11)
     (lend (node_row 2 0 w0 least 0 0 w9 1 ++ node_row 1 1 w4 least 1 1 most 1 ++ old 117 7) (edge_row 0 1 1 4 0 ++ old 206 58) (old 301 3))
     -- 11: H with no whole node row: nothing is written
-    ∷ call (ask_t 1 relaxing lastExactLayer lowest (root 2)) (lend (old 101 7) (old 201 6) []) (refused 11) (lend (old 101 7) (old 201 6) [])
+    ∷ call (ask_t 1 relaxing last_exact_layer lowest (root 2)) (lend (old 101 7) (old 201 6) []) (refused 11) (lend (old 101 7) (old 201 6) [])
     -- 12: H with one edge row, and 4 words more
-    ∷ call (ask_t 1 relaxing lastExactLayer lowest (root 2))
+    ∷ call (ask_t 1 relaxing last_exact_layer lowest (root 2))
     (lend (old 101 75) (old 201 9) (old 301 3))
     (refused 12)
     (lend (node_row 2 0 w0 least 0 0 w9 1 ++ node_row 1 1 w4 least 1 1 most 1 ++ old 117 59) (edge_row 0 1 1 4 0 ++ old 206 4) (old 301 3))
     -- L: just the rows and the one record that it needs are lent; two rows are listed, one record is drained
-    ∷ call (ask_t 1 relaxing lastExactLayer (pos 8) (root 2))
+    ∷ call (ask_t 1 relaxing last_exact_layer (pos 8) (root 2))
     (lend (old 101 64) (old 201 40) (old 301 68))
     (accepted false (some (pos 9)) (5 ∷ 3 ∷ 1 ∷ replicate 61 0) none (replicate 64 0) 8 8 1 (range 0 1 ∷ range 1 3 ∷ range 3 6 ∷ range 6 8 ∷ []))
     (lend
@@ -187,7 +187,7 @@ calls =
     (edge_row 0 1 1 4 0 ++ edge_row 0 2 0 0 0 ++ edge_row 1 3 3 3 0 ++ edge_row 1 4 2 0 0 ++ edge_row 1 5 3 3 0 ++ edge_row 1 5 2 0 5 ++ edge_row 5 6 5 2 0 ++ edge_row 5 7 4 0 0)
     (record_row 1 w4 w9 1 (1 ∷ replicate 63 0)))
     -- T restricted, width 2: mode and width are asked
-    ∷ call (ask_t 2 restricted lastExactLayer lowest (root 2))
+    ∷ call (ask_t 2 restricted last_exact_layer lowest (root 2))
     (lend (old 101 66) (old 201 47) (old 301 2))
     (accepted false (some (pos 7)) (4 ∷ 3 ∷ 1 ∷ replicate 61 0) (some (pos 7)) (4 ∷ 3 ∷ 1 ∷ replicate 61 0) 8 9 0 (range 0 1 ∷ range 1 3 ∷ range 3 6 ∷ range 6 8 ∷ []))
     (lend
@@ -203,12 +203,12 @@ calls =
     (edge_row 0 1 1 4 0 ++ edge_row 0 2 0 0 0 ++ edge_row 2 3 3 3 0 ++ edge_row 2 4 2 0 0 ++ edge_row 1 5 3 3 0 ++ edge_row 1 3 2 0 3 ++ edge_row 5 6 4 0 0 ++ edge_row 3 6 5 2 7 ++ edge_row 3 7 4 0 0 ++ old 246 2)
     (old 301 2))
     -- K: the lower bound is asked; without a value the path's places are 0
-    ∷ call (ask_t 1 relaxing lastExactLayer (pos 9) (root 2))
+    ∷ call (ask_t 1 relaxing last_exact_layer (pos 9) (root 2))
     (lend (old 101 15) (old 201 4) [])
     (accepted true none (replicate 64 0) none (replicate 64 0) 1 0 0 (range 0 1 ∷ range 0 0 ∷ []))
     (lend (node_row 2 0 w0 least 0 0 w9 1 ++ old 109 7) (old 201 4) [])
     -- T from H's first record: its capacity, value, depth and path are the root's; its bound isn't read
-    ∷ call (ask_t 1 relaxing lastExactLayer lowest (given 1 (pos 4) (pos 9) 1 (1 ∷ [])))
+    ∷ call (ask_t 1 relaxing last_exact_layer lowest (given 1 (pos 4) (pos 9) 1 (1 ∷ [])))
     (lend (old 101 41) (old 201 29) [])
     (accepted true (some (pos 7)) (1 ∷ 4 ∷ 3 ∷ replicate 61 0) (some (pos 7)) (1 ∷ 4 ∷ 3 ∷ replicate 61 0) 5 5 0 (range 0 1 ∷ range 1 3 ∷ range 3 5 ∷ []))
     (lend
@@ -228,14 +228,14 @@ lent_few = lend (old 101 29) (old 201 13) (old 301 70)
 
 -- exact mode, from the root; and from a record
 abbrev from_root : List ℕ → List ℕ → ℕ → ℕ → Request
-from_root weights profits page width = ask weights profits page width exactly lastExactLayer lowest (root page)
+from_root weights profits page width = ask weights profits page width exactly last_exact_layer lowest (root page)
 
 abbrev from_record : List ℕ → List ℕ → ℕ → ℕ → Given → Request
-from_record weights profits page width start = ask weights profits page width exactly lastExactLayer lowest start
+from_record weights profits page width start = ask weights profits page width exactly last_exact_layer lowest start
 
 -- n items without weight and profit, of which nothing is above the lower bound
 abbrev empties : ℕ → Request
-empties n = ask (replicate n 0) (replicate n 0) 0 1 exactly lastExactLayer (pos 0) (root 0)
+empties n = ask (replicate n 0) (replicate n 0) 0 1 exactly last_exact_layer (pos 0) (root 0)
 
 -- what passes
 unfoldable pub passing : List Request
@@ -271,12 +271,12 @@ refusing =
     ∷ refuses 4 (from_root (1 ∷ 65536 ∷ []) (1 ∷ 1 ∷ []) 65535 256)
     ∷ refuses 5 (from_root (1 ∷ 1 ∷ []) (1 ∷ 1000001 ∷ []) 65535 256)
     -- 6: width 0 and 257, in any mode
-    ∷ refuses 6 (ask (1 ∷ []) (1 ∷ []) 1 0 exactly lastExactLayer lowest (root 1))
-    ∷ refuses 6 (ask (1 ∷ []) (1 ∷ []) 1 257 exactly lastExactLayer lowest (root 1))
-    ∷ refuses 6 (ask (1 ∷ []) (1 ∷ []) 1 0 restricted lastExactLayer lowest (root 1))
-    ∷ refuses 6 (ask (1 ∷ []) (1 ∷ []) 1 257 restricted lastExactLayer lowest (root 1))
-    ∷ refuses 6 (ask (1 ∷ []) (1 ∷ []) 1 0 relaxing lastExactLayer lowest (root 1))
-    ∷ refuses 6 (ask (1 ∷ []) (1 ∷ []) 1 257 relaxing lastExactLayer lowest (root 1))
+    ∷ refuses 6 (ask (1 ∷ []) (1 ∷ []) 1 0 exactly last_exact_layer lowest (root 1))
+    ∷ refuses 6 (ask (1 ∷ []) (1 ∷ []) 1 257 exactly last_exact_layer lowest (root 1))
+    ∷ refuses 6 (ask (1 ∷ []) (1 ∷ []) 1 0 restricted last_exact_layer lowest (root 1))
+    ∷ refuses 6 (ask (1 ∷ []) (1 ∷ []) 1 257 restricted last_exact_layer lowest (root 1))
+    ∷ refuses 6 (ask (1 ∷ []) (1 ∷ []) 1 0 relaxing last_exact_layer lowest (root 1))
+    ∷ refuses 6 (ask (1 ∷ []) (1 ∷ []) 1 257 relaxing last_exact_layer lowest (root 1))
     -- 7: one deeper than there are items; a byte less and a byte more than the depth
     ∷ refuses 7 (from_record (3 ∷ 5 ∷ []) (7 ∷ 11 ∷ []) 9 1 (given 4 (pos 11) (pos 0) 3 (3 ∷ 0 ∷ 4 ∷ [])))
     ∷ refuses 7 (from_record (3 ∷ 5 ∷ []) (7 ∷ 11 ∷ []) 9 1 (given 4 (pos 11) (pos 0) 2 (3 ∷ [])))

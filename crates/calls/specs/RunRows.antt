@@ -1,12 +1,12 @@
 -- 'Refusal numbers', 10 to 13: what each row of document 01's table says of a request's run in the rooms that are lent.
 use Rattle.std.specs.Prelude.{◌≡◌, ℕ, ◌<◌, length}
 use Rattle.diagram.specs.Tables.{Diagram}
-use Rattle.diagram.specs.After6.{Outcome, drained, refused as stoppedAt, finished}
+use Rattle.diagram.specs.After6.{Outcome, drained, refused as stopped_at, finished}
 use Rattle.calls.specs.Compile.{Request, Rooms, run_of}
 
 -- the run stops with number n
 abbrev pub StopsWith : ℕ → Request → Rooms → Type 0
-StopsWith n q m = (d : Diagram) × (run_of q m ≡ stoppedAt n d)
+StopsWith n q m = (d : Diagram) × (run_of q m ≡ stopped_at n d)
 
 -- 10 'the run makes a 1,025th node in one layer': before that node is written the run stops (rules 4 and 6)
 abbrev pub Row10 : Request → Rooms → Type 0

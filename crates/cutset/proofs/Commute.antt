@@ -10,7 +10,7 @@ use Rattle.words.specs.I64.{mid, sat_add}
 use Rattle.diagram.specs.Node.{Node, Edge, no_node, node_at, edge_at, update, in_cutset, marked_with}
 use Rattle.diagram.specs.Tables.{Range, LastExact, unsquashed, squashed_after, Diagram, with_nodes, rows_of, inbound}
 use Rattle.diagram.specs.Run.{Mode, exactly, restricted, relaxing}
-use Rattle.diagram.specs.After4.{CutsetKind, lastExactLayer, frontier, Cutset, list_row, list_rows, layer_cutset, frontier_edges, frontier_rows, frontier_layers, no_cutset, cutset_of, cutset_for}
+use Rattle.diagram.specs.After4.{CutsetKind, last_exact_layer, frontier, Cutset, list_row, list_rows, layer_cutset, frontier_edges, frontier_rows, frontier_layers, no_cutset, cutset_of, cutset_for}
 use Rattle.diagram.specs.After5.{ground_rows, ground_layer, raise, raise_parents, raise_rows, raise_layers, bounds_if, local_bounds}
 use Rattle.cutset.specs.Views.{with_cutset, uncut, uncuts, unmarked, unmarkeds}
 
@@ -154,7 +154,7 @@ layer_same (squashed_after l) a b e = rows_same (rows_of l) a b e
 
 of_same : (k : CutsetKind) (d : Diagram) (ns : List Node) → unmarkeds ns ≡ unmarkeds d.nodes → Same (cutset_of k (with_nodes d ns)) (cutset_of k d)
 unfolding cutset_of no_cutset with_nodes
-of_same lastExactLayer d ns e = layer_same d.last _ _ (record { rows = e; listed = refl })
+of_same last_exact_layer d ns e = layer_same d.last _ _ (record { rows = e; listed = refl })
 of_same frontier d ns e = layers_same d.edges d.layers _ _ (record { rows = e; listed = refl })
 
 for_same : (m : Mode) (k : CutsetKind) (d : Diagram) (ns : List Node) → unmarkeds ns ≡ unmarkeds d.nodes → Same (cutset_for m k (with_nodes d ns)) (cutset_for m k d)
@@ -202,7 +202,7 @@ layer_flags (squashed_after l) c = rows_flags (rows_of l) c
 
 pub of_flags : (k : CutsetKind) (d : Diagram) → uncuts (cutset_of k d).nodes ≡ uncuts d.nodes
 unfolding cutset_of no_cutset
-of_flags lastExactLayer d = layer_flags d.last _
+of_flags last_exact_layer d = layer_flags d.last _
 of_flags frontier d = layers_flags d.edges d.layers _
 
 pub for_flags : (m : Mode) (k : CutsetKind) (d : Diagram) → uncuts (cutset_for m k d).nodes ≡ uncuts d.nodes

@@ -11,7 +11,7 @@ use borrow.Author.Tests.{le-leb, lt-leb}
 use Rattle.diagram.specs.Record.{Record}
 use Rattle.diagram.specs.Node.{Node}
 use Rattle.diagram.specs.Tables.{Range, LastExact, unsquashed, squashed_after, Diagram, rows_of}
-use Rattle.diagram.specs.After4.{CutsetKind, lastExactLayer, frontier, Cutset, layer_cutset, frontier_layers, no_cutset, cutset_of}
+use Rattle.diagram.specs.After4.{CutsetKind, last_exact_layer, frontier, Cutset, layer_cutset, frontier_layers, no_cutset, cutset_of}
 use Rattle.diagram.specs.After6.{drain_rows}
 use Rattle.layout.specs.Table.{over}
 use Rattle.layout.specs.Rows.{node_words, node_table, edge_table}
@@ -34,7 +34,7 @@ use Rattle.cutset.proofs.Listing.{tracing_as}
 
 -- ---- one kind or the other
 
-pub none_last : (w : Wanted) (l : Layers) (s : Last) (ns es rs : List ℕ) → s ≡ Unsquashed → Traced (Shaped l s) (cutset_from lastExactLayer) w 0 ns es rs 0 ns rs
+pub none_last : (w : Wanted) (l : Layers) (s : Last) (ns es rs : List ℕ) → s ≡ Unsquashed → Traced (Shaped l s) (cutset_from last_exact_layer) w 0 ns es rs 0 ns rs
 unfolding cutset_from layer_cutset
 none_last w l s ns es rs e =
     record {
@@ -50,7 +50,7 @@ pub last_asked : (w : Wanted) (l : Layers) (s : Last) (ns es rs : List ℕ) (fro
 last_asked w l s ns es rs from to e x =
     tracing_as (Shaped l s) (Upto to) w 0 ns es rs (λ d c p. last_upto (length d.nodes) s from to e p.last_in) x
 
-pub last_listed : (w : Wanted) (l : Layers) (s : Last) (ns es rs : List ℕ) (from to : ℕ) (k : ℕ) (ns' rs' : List ℕ) → s ≡ After from to → Traced (Upto to) (listings from (to - from)) w 0 ns es rs k ns' rs' → Traced (Shaped l s) (cutset_from lastExactLayer) w 0 ns es rs k ns' rs'
+pub last_listed : (w : Wanted) (l : Layers) (s : Last) (ns es rs : List ℕ) (from to : ℕ) (k : ℕ) (ns' rs' : List ℕ) → s ≡ After from to → Traced (Upto to) (listings from (to - from)) w 0 ns es rs k ns' rs' → Traced (Shaped l s) (cutset_from last_exact_layer) w 0 ns es rs k ns' rs'
 unfolding cutset_from layer_cutset rows_of
 last_listed w l s ns es rs from to k ns' rs' e g =
     record {
@@ -78,7 +78,7 @@ of_kind w l s ns es rs k kind n ns' rs' e g = rw e g
 
 from_none : (k : CutsetKind) (d : Diagram) → cutset_from k d (no_cutset d) ≡ cutset_of k d
 unfolding cutset_from cutset_of
-from_none lastExactLayer d = refl
+from_none last_exact_layer d = refl
 from_none frontier d = refl
 
 fresh_trace : (w : Wanted) (d : Diagram) (old_n old_e old_r ns es rs : List ℕ) → ns ≡ over (node_table d.nodes) old_n → es ≡ over (edge_table d.edges) old_e → rs ≡ old_r → Trace w d old_n old_e old_r (no_cutset d) 0 ns es rs

@@ -2,7 +2,7 @@
 use Rattle.std.specs.Prelude.{◌≡◌, cond, List, [], ℕ, ◌≤◌, leb, length}
 use Rattle.diagram.specs.Record.{Record}
 use Rattle.diagram.specs.Tables.{Diagram}
-use Rattle.diagram.specs.After4.{CutsetKind, lastExactLayer, frontier, Cutset, layer_cutset, frontier_layers, no_cutset, cutset_of}
+use Rattle.diagram.specs.After4.{CutsetKind, last_exact_layer, frontier, Cutset, layer_cutset, frontier_layers, no_cutset, cutset_of}
 use Rattle.layout.specs.Table.{over}
 use Rattle.layout.specs.Rows.{node_table, edge_table}
 use Rattle.layout.specs.Records.{record_table}
@@ -24,7 +24,7 @@ abbrev pub counting : Wanted → Wanted
 counting w = record { room = 0; best = w.best; path = w.path; depth = w.depth }
 
 abbrev pub kind_of : Kind → CutsetKind
-kind_of LastExactLayer = lastExactLayer
+kind_of LastExactLayer = last_exact_layer
 kind_of Frontier = frontier
 
 -- the last exact layer ends within so many rows
@@ -42,7 +42,7 @@ pub record Shaped (l : Layers) (s : Last) (d : Diagram) (c : Cutset) : Type 0 wh
 
 -- a cutset of that kind, listed behind the rows that c lists
 unfoldable pub cutset_from : CutsetKind → Diagram → Cutset → Cutset
-cutset_from lastExactLayer d c = layer_cutset d.last c
+cutset_from last_exact_layer d c = layer_cutset d.last c
 cutset_from frontier d c = frontier_layers d.edges d.layers c
 
 -- The tables hold diagram d, which has its marks and bottom values and no cutset flag yet.

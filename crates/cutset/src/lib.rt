@@ -2,7 +2,7 @@
 #![tactic(auto)]
 
 ghost use Rattle.std.specs.Prelude.{◌≡◌, ◌+◌, ◌-◌, ◌*◌, ◌<◌, ◌≤◌, length};
-ghost use Rattle.diagram.specs.After4.{lastExactLayer};
+ghost use Rattle.diagram.specs.After4.{last_exact_layer};
 ghost use Rattle.diagram.specs.After6.{drained_bound};
 ghost use Rattle.layout.specs.Rows.{node_words};
 ghost use Rattle.rows.specs.Values.{node_of};
@@ -287,7 +287,7 @@ fn list_last(
     last: Last,
 ) -> usize
     requires { Tracing (Shaped layers last) w 0 nodes.old edges.now records.old }
-    ensures { Traced (Shaped layers last) (cutset_from lastExactLayer) w 0 nodes.old edges.now records.old result
+    ensures { Traced (Shaped layers last) (cutset_from last_exact_layer) w 0 nodes.old edges.now records.old result
         nodes.new records.new }
 {
     let Last::After(from, to) = last else {

@@ -5,7 +5,7 @@ use Prim.Native.Nat.{ℕ, ◌*◌}
 use native.Mathlib.Omega.{arith}
 use lib.ListN.{replicate, length-append, length-replicate}
 use lib.Seq.{take-append-le}
-use Rattle.diagram.specs.After4.{lastExactLayer}
+use Rattle.diagram.specs.After4.{last_exact_layer}
 use Rattle.layout.specs.Rows.{node_words, edge_words}
 use Rattle.layout.specs.Records.{record_words}
 use Rattle.searches.specs.Places.{no_place}
@@ -19,7 +19,7 @@ abbrev lent_of : ℕ → ℕ → Lent
 lent_of nodes edges = record { nodes = replicate (nodes * node_words) 0; edges = replicate (edges * edge_words) 0; records = replicate (nodes * record_words) 0 }
 
 abbrev host_of : ℕ → ℕ → ℕ → Strategy
-host_of width nodes edges s list = record { width = width; kind = lastExactLayer; place = 0; held = record { list = list ++ replicate nodes no_place; lent = lent_of nodes edges } }
+host_of width nodes edges s list = record { width = width; kind = last_exact_layer; place = 0; held = record { list = list ++ replicate nodes no_place; lent = lent_of nodes edges } }
 
 lent_rooms : (nodes edges : ℕ) → ((rooms_of (lent_of nodes edges)).nodes ≡ nodes) × ((rooms_of (lent_of nodes edges)).edges ≡ edges) × ((rooms_of (lent_of nodes edges)).records ≡ nodes)
 unfolding rooms_of

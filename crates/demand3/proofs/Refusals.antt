@@ -6,7 +6,7 @@ use Prim.Native.Nat.{ℕ, ◌≤◌, ◌<◌}
 use native.Mathlib.Decide.{dec_le}
 use native.Mathlib.Omega.{arith}
 use lib.IntN.{ℤ}
-use Rattle.diagram.specs.After6.{refused as stoppedAt}
+use Rattle.diagram.specs.After6.{refused as stopped_at}
 use Rattle.diagram.specs.Run.{relaxing}
 use Rattle.diagram.specs.Tables.{Diagram}
 use Rattle.theorems.proofs.Fits.{Stop, ten, eleven, twelve}
@@ -37,7 +37,7 @@ ForRoom n = (n ≡ 11) ⊎ ((n ≡ 12) ⊎ (n ≡ 13))
 pub narrow : (q : Request) → Allowed q.problem → q.problem.width ≤ 256
 narrow q a = elim (dec_le q.problem.width 256) [ yes h ↦ h | no n ↦ absurd (a.passes6 (inr (omega arith))) ]
 
-stop_for_room : (q : Request) (m : Rooms) (d : Diagram) {n : ℕ} → q.mode ≡ relaxing → compile_refusal q.problem q.given ≡ none → Stop n → run_of q m ≡ stoppedAt n d → ForRoom n
+stop_for_room : (q : Request) (m : Rooms) (d : Diagram) {n : ℕ} → q.mode ≡ relaxing → compile_refusal q.problem q.given ≡ none → Stop n → run_of q m ≡ stopped_at n d → ForRoom n
 stop_for_room q m d relaxed c ten e = absurd (not_ten q m d c e (λ x. let z : ◌≡◌ {A = ℕ} 0 1 = cc in omega arith))
 stop_for_room q m d relaxed c eleven e = inl refl
 stop_for_room q m d relaxed c twelve e = inr (inl refl)

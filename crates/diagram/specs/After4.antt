@@ -6,7 +6,7 @@ use Rattle.diagram.specs.Run.{Mode, exactly, restricted, relaxing}
 
 -- 'both cutset kinds'
 pub data CutsetKind : Type 0 where
-  lastExactLayer frontier : CutsetKind
+  last_exact_layer frontier : CutsetKind
 
 -- The rows listed so far, in order, and the node rows with the cutset flag on each of them.
 pub record Cutset : Type 0 where
@@ -46,7 +46,7 @@ unfoldable pub no_cutset : Diagram → Cutset
 no_cutset d = record { nodes = d.nodes; listed = [] }
 
 unfoldable pub cutset_of : CutsetKind → Diagram → Cutset
-cutset_of lastExactLayer d = layer_cutset d.last (no_cutset d)
+cutset_of last_exact_layer d = layer_cutset d.last (no_cutset d)
 cutset_of frontier d = frontier_layers d.edges d.layers (no_cutset d)
 
 unfoldable pub cutset_for : Mode → CutsetKind → Diagram → Cutset

@@ -34,23 +34,23 @@ outcome m k d =
 
 -- 'The record's bound is the least of value plus fast bound, value plus bottom value, and the best value.'
 unfoldable pub drained_bound : ℕ → Node → ℕ
-drained_bound bestValue n = min (min (sat_add n.value n.fast) (sat_add n.value n.bottom)) bestValue
+drained_bound best_value n = min (min (sat_add n.value n.fast) (sat_add n.value n.bottom)) best_value
 
 unfoldable pub drained_record : List ℕ → Diagram → ℕ → ℕ → Record
-drained_record record_path d bestValue r =
+drained_record record_path d best_value r =
     record {
       capacity = (node_at d.nodes r).capacity;
       value = (node_at d.nodes r).value;
-      bound = drained_bound bestValue (node_at d.nodes r);
+      bound = drained_bound best_value (node_at d.nodes r);
       depth = (node_at d.nodes r).depth;
       path = path_to record_path d r;
     }
 
 -- 'Drained: cutset nodes in order, only marked ones'
 unfoldable pub drain_rows : List ℕ → Diagram → ℕ → List ℕ → List Record
-drain_rows record_path d bestValue [] = []
-drain_rows record_path d bestValue (r ∷ rs) =
-    cond (node_at d.nodes r).marked (drained_record record_path d bestValue r ∷ drain_rows record_path d bestValue rs) (drain_rows record_path d bestValue rs)
+drain_rows record_path d best_value [] = []
+drain_rows record_path d best_value (r ∷ rs) =
+    cond (node_at d.nodes r).marked (drained_record record_path d best_value r ∷ drain_rows record_path d best_value rs) (drain_rows record_path d best_value rs)
 
 -- 'none if there is no best value'. 'Exact diagrams drain theirs too.'
 unfoldable pub drain_for : Found → List ℕ → Outcome → List Record

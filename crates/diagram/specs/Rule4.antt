@@ -12,8 +12,8 @@ handed ns p cost = sat_add (node_at ns p).value (mid + cost)
 -- 'An edge clears the child's exact flag if its parent isn't exact; it becomes the best edge if its value is at least the child's,
 -- so a later equal edge wins.' Edge row e, its parent exact or not, its value v; n is the child.
 unfoldable pub receive : ℕ → Bool → ℕ → Node → Node
-receive e parentExact v n =
-    entered (cond (leb n.value v) v n.value) (cond (leb n.value v) (suc e) n.best) (suc e) (parentExact && n.exact) n
+receive e parent_exact v n =
+    entered (cond (leb n.value v) v n.value) (cond (leb n.value v) (suc e) n.best) (suc e) (parent_exact && n.exact) n
 
 -- what row n becomes when the next edge, of that cost, comes from row p
 unfoldable pub landed : List Node → List Edge → ℕ → ℕ → Node → Node

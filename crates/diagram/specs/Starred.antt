@@ -4,7 +4,7 @@ use Rattle.std.specs.Prelude.{◌≡◌, true, false, List, [], ◌∷◌, map, 
 use Rattle.std.proofs.Math.Option.{none, some}
 use Rattle.knapsack.specs.Items.{Item}
 use Rattle.diagram.specs.Run.{exactly, restricted, relaxing}
-use Rattle.diagram.specs.After4.{lastExactLayer, frontier}
+use Rattle.diagram.specs.After4.{last_exact_layer, frontier}
 use Rattle.diagram.specs.Figures.{ShownRecord, shown, answer, Case, case, shown_of, lowest, item}
 
 -- 'T is the three items of case R, capacity 2.'
@@ -30,25 +30,25 @@ M₁ = shown 1 (pos 4) (pos 7) 1 (1 ∷ [])
 unfoldable pub cases : List Case
 cases =
     -- A
-    case exactly 1 lastExactLayer (pos 10) [] 0 (answer true (some (pos 0)) [] (some (pos 0)) [] 1 0 [])
+    case exactly 1 last_exact_layer (pos 10) [] 0 (answer true (some (pos 0)) [] (some (pos 0)) [] 1 0 [])
     -- B
-    ∷ case exactly 1 lastExactLayer lowest B 3 (answer true (some (pos 5)) (1 ∷ []) (some (pos 5)) (1 ∷ []) 3 2 [])
+    ∷ case exactly 1 last_exact_layer lowest B 3 (answer true (some (pos 5)) (1 ∷ []) (some (pos 5)) (1 ∷ []) 3 2 [])
     -- E
-    ∷ case exactly 1 lastExactLayer (pos 5) B 3 (answer true none [] none [] 1 0 [])
+    ∷ case exactly 1 last_exact_layer (pos 5) B 3 (answer true none [] none [] 1 0 [])
     -- F
-    ∷ case exactly 1 lastExactLayer lowest F 2 (answer true (some (pos 3)) (2 ∷ 1 ∷ []) (some (pos 3)) (2 ∷ 1 ∷ []) 5 5 [])
+    ∷ case exactly 1 last_exact_layer lowest F 2 (answer true (some (pos 3)) (2 ∷ 1 ∷ []) (some (pos 3)) (2 ∷ 1 ∷ []) 5 5 [])
     -- H
-    ∷ case relaxing 1 lastExactLayer lowest T 2 (answer false (some (pos 9)) (5 ∷ 3 ∷ 1 ∷ []) none [] 9 12 (H₁ ∷ H₂ ∷ []))
+    ∷ case relaxing 1 last_exact_layer lowest T 2 (answer false (some (pos 9)) (5 ∷ 3 ∷ 1 ∷ []) none [] 9 12 (H₁ ∷ H₂ ∷ []))
     -- I
     ∷ case relaxing 1 frontier lowest T 2 (answer false (some (pos 9)) (5 ∷ 3 ∷ 1 ∷ []) none [] 9 12 (H₂ ∷ H₁ ∷ []))
     -- J
-    ∷ case restricted 1 lastExactLayer lowest T 2 (answer false (some (pos 7)) (4 ∷ 3 ∷ 1 ∷ []) (some (pos 7)) (4 ∷ 3 ∷ 1 ∷ []) 6 5 [])
+    ∷ case restricted 1 last_exact_layer lowest T 2 (answer false (some (pos 7)) (4 ∷ 3 ∷ 1 ∷ []) (some (pos 7)) (4 ∷ 3 ∷ 1 ∷ []) 6 5 [])
     -- K
-    ∷ case relaxing 1 lastExactLayer (pos 9) T 2 (answer true none [] none [] 1 0 [])
+    ∷ case relaxing 1 last_exact_layer (pos 9) T 2 (answer true none [] none [] 1 0 [])
     -- L
-    ∷ case relaxing 1 lastExactLayer (pos 8) T 2 (answer false (some (pos 9)) (5 ∷ 3 ∷ 1 ∷ []) none [] 8 8 (H₁ ∷ []))
+    ∷ case relaxing 1 last_exact_layer (pos 8) T 2 (answer false (some (pos 9)) (5 ∷ 3 ∷ 1 ∷ []) none [] 8 8 (H₁ ∷ []))
     -- M
-    ∷ case relaxing 2 lastExactLayer lowest T 2 (answer true (some (pos 7)) (4 ∷ 3 ∷ 1 ∷ []) (some (pos 7)) (4 ∷ 3 ∷ 1 ∷ []) 10 12 (M₁ ∷ H₂ ∷ []))
+    ∷ case relaxing 2 last_exact_layer lowest T 2 (answer true (some (pos 7)) (4 ∷ 3 ∷ 1 ∷ []) (some (pos 7)) (4 ∷ 3 ∷ 1 ∷ []) 10 12 (M₁ ∷ H₂ ∷ []))
     ∷ []
 
 -- the table statement

@@ -8,73 +8,73 @@ use Rattle.diagram.specs.Tables.{Diagram, unsquashed, nowhere}
 use Rattle.diagram.specs.Run.{Mode, exactly, restricted, relaxing, Settings, Run, going, stopped}
 use Rattle.diagram.specs.Rule4.{new_child}
 use Rattle.diagram.specs.Rule6.{Squashed, layer, halted, merge_into}
-use Rattle.diagram.specs.After4.{CutsetKind, lastExactLayer, frontier}
+use Rattle.diagram.specs.After4.{CutsetKind, last_exact_layer, frontier}
 use Rattle.diagram.specs.Figures.{shown, ShownRecord, show_record, shown_record, answer, E, R, M, C, D, node, edge, range, ShownTables, Given, shown_of, tables_of, lowest, highest, item, case, case_from, Case}
 
 -- Answers. Each case stands under the rule or paragraph that it pins.
 unfoldable pub answers : List Case
 answers =
     -- Rule 3, take is tried first and rule 4, a later equal edge wins: take and skip end in one row, by equal edges.
-    case relaxing 1 lastExactLayer lowest (item 0 0 ∷ []) 0 (answer true (some (pos 0)) (0 ∷ []) (some (pos 0)) (0 ∷ []) 2 2 [])
+    case relaxing 1 last_exact_layer lowest (item 0 0 ∷ []) 0 (answer true (some (pos 0)) (0 ∷ []) (some (pos 0)) (0 ∷ []) 2 2 [])
     -- Rule 3, strictly above: value plus bound equal to the lower bound is not branched.
-    ∷ case relaxing 1 lastExactLayer (pos 0) (item 0 0 ∷ []) 0 (answer true none [] none [] 1 0 [])
+    ∷ case relaxing 1 last_exact_layer (pos 0) (item 0 0 ∷ []) 0 (answer true none [] none [] 1 0 [])
     -- A path's new decisions go from bottom to top.
-    ∷ case relaxing 1 lastExactLayer lowest (item 0 0 ∷ item 0 0 ∷ []) 0 (answer true (some (pos 0)) (2 ∷ 0 ∷ []) (some (pos 0)) (2 ∷ 0 ∷ []) 3 4 [])
+    ∷ case relaxing 1 last_exact_layer lowest (item 0 0 ∷ item 0 0 ∷ []) 0 (answer true (some (pos 0)) (2 ∷ 0 ∷ []) (some (pos 0)) (2 ∷ 0 ∷ []) 3 4 [])
     -- Best node: of two terminals of equal value the larger capacity, not the smaller, nor the first row.
-    ∷ case relaxing 1 lastExactLayer lowest (item 1 0 ∷ []) 1 (answer true (some (pos 0)) (0 ∷ []) (some (pos 0)) (0 ∷ []) 3 2 [])
+    ∷ case relaxing 1 last_exact_layer lowest (item 1 0 ∷ []) 1 (answer true (some (pos 0)) (0 ∷ []) (some (pos 0)) (0 ∷ []) 3 2 [])
     -- Best node: nor the last row. And rule 5: the layer of the root's children is not squashed.
-    ∷ case relaxing 1 lastExactLayer lowest (item 1 0 ∷ item 0 0 ∷ []) 1 (answer true (some (pos 0)) (2 ∷ 0 ∷ []) (some (pos 0)) (2 ∷ 0 ∷ []) 5 6 [])
+    ∷ case relaxing 1 last_exact_layer lowest (item 1 0 ∷ item 0 0 ∷ []) 1 (answer true (some (pos 0)) (2 ∷ 0 ∷ []) (some (pos 0)) (2 ∷ 0 ∷ []) 5 6 [])
     -- Rule 5: the last layer is not squashed, relaxed and restricted.
-    ∷ case relaxing 1 lastExactLayer lowest (item 0 0 ∷ item 1 0 ∷ []) 1 (answer true (some (pos 0)) (2 ∷ 0 ∷ []) (some (pos 0)) (2 ∷ 0 ∷ []) 4 4 [])
-    ∷ case restricted 1 lastExactLayer lowest (item 1 0 ∷ []) 1 (answer true (some (pos 0)) (0 ∷ []) (some (pos 0)) (0 ∷ []) 3 2 [])
+    ∷ case relaxing 1 last_exact_layer lowest (item 0 0 ∷ item 1 0 ∷ []) 1 (answer true (some (pos 0)) (2 ∷ 0 ∷ []) (some (pos 0)) (2 ∷ 0 ∷ []) 4 4 [])
+    ∷ case restricted 1 last_exact_layer lowest (item 1 0 ∷ []) 1 (answer true (some (pos 0)) (0 ∷ []) (some (pos 0)) (0 ∷ []) 3 2 [])
     -- Restricted: `width` nodes are kept; on equal values the larger capacity stands first; the walk is made in relaxed mode alone.
-    ∷ case restricted 1 lastExactLayer lowest (item 1 0 ∷ item 0 0 ∷ []) 1 (answer false (some (pos 0)) (2 ∷ 0 ∷ []) (some (pos 0)) (2 ∷ 0 ∷ []) 4 4 [])
+    ∷ case restricted 1 last_exact_layer lowest (item 1 0 ∷ item 0 0 ∷ []) 1 (answer false (some (pos 0)) (2 ∷ 0 ∷ []) (some (pos 0)) (2 ∷ 0 ∷ []) 4 4 [])
     -- Squash order: value goes before capacity (restricted, relaxed).
-    ∷ case restricted 1 lastExactLayer lowest (item 1 1 ∷ item 0 0 ∷ []) 1 (answer false (some (pos 1)) (2 ∷ 1 ∷ []) (some (pos 1)) (2 ∷ 1 ∷ []) 4 4 [])
-    ∷ case relaxing 2 lastExactLayer lowest (item 1 0 ∷ item 1 1 ∷ item 0 0 ∷ []) 2 (answer false (some (pos 1)) (4 ∷ 3 ∷ 1 ∷ []) (some (pos 1)) (4 ∷ 3 ∷ 0 ∷ []) 9 12 (shown 1 (pos 0) (pos 1) 1 (1 ∷ []) ∷ shown 2 (pos 0) (pos 1) 1 (0 ∷ []) ∷ []))
+    ∷ case restricted 1 last_exact_layer lowest (item 1 1 ∷ item 0 0 ∷ []) 1 (answer false (some (pos 1)) (2 ∷ 1 ∷ []) (some (pos 1)) (2 ∷ 1 ∷ []) 4 4 [])
+    ∷ case relaxing 2 last_exact_layer lowest (item 1 0 ∷ item 1 1 ∷ item 0 0 ∷ []) 2 (answer false (some (pos 1)) (4 ∷ 3 ∷ 1 ∷ []) (some (pos 1)) (4 ∷ 3 ∷ 0 ∷ []) 9 12 (shown 1 (pos 0) (pos 1) 1 (1 ∷ []) ∷ shown 2 (pos 0) (pos 1) 1 (0 ∷ []) ∷ []))
     -- Squash order on equal values, merged nodes' edges copied in that order; `width` − 1 are kept; the last exact layer is the one before the squash; a merged node stops the walk; local bounds go up copied edges.
-    ∷ case relaxing 1 lastExactLayer lowest (item 0 0 ∷ item 1 0 ∷ item 0 0 ∷ []) 1 (answer false (some (pos 0)) (4 ∷ 3 ∷ 0 ∷ []) none [] 6 8 (shown 1 (pos 0) (pos 0) 1 (0 ∷ []) ∷ []))
+    ∷ case relaxing 1 last_exact_layer lowest (item 0 0 ∷ item 1 0 ∷ item 0 0 ∷ []) 1 (answer false (some (pos 0)) (4 ∷ 3 ∷ 0 ∷ []) none [] 6 8 (shown 1 (pos 0) (pos 0) 1 (0 ∷ []) ∷ []))
     -- Frontier: a parent is listed once, and only for a node that isn't exact.
     ∷ case relaxing 1 frontier lowest (item 0 0 ∷ item 1 0 ∷ item 0 0 ∷ []) 1 (answer false (some (pos 0)) (4 ∷ 3 ∷ 0 ∷ []) none [] 6 8 (shown 1 (pos 0) (pos 0) 1 (0 ∷ []) ∷ []))
     -- Copied edges: all inbound ones, newest first; local bounds go up each inbound edge.
-    ∷ case relaxing 1 lastExactLayer lowest (item 1 0 ∷ item 0 0 ∷ item 0 0 ∷ []) 1 (answer false (some (pos 0)) (4 ∷ 3 ∷ 1 ∷ []) none [] 7 12 (shown 0 (pos 0) (pos 0) 1 (1 ∷ []) ∷ shown 1 (pos 0) (pos 0) 1 (0 ∷ []) ∷ []))
+    ∷ case relaxing 1 last_exact_layer lowest (item 1 0 ∷ item 0 0 ∷ item 0 0 ∷ []) 1 (answer false (some (pos 0)) (4 ∷ 3 ∷ 1 ∷ []) none [] 7 12 (shown 0 (pos 0) (pos 0) 1 (1 ∷ []) ∷ shown 1 (pos 0) (pos 0) 1 (0 ∷ []) ∷ []))
     -- Frontier: inbound edges newest first.
     ∷ case relaxing 1 frontier lowest (item 1 0 ∷ item 0 0 ∷ item 0 0 ∷ []) 1 (answer false (some (pos 0)) (4 ∷ 3 ∷ 1 ∷ []) none [] 7 12 (shown 0 (pos 0) (pos 0) 1 (1 ∷ []) ∷ shown 1 (pos 0) (pos 0) 1 (0 ∷ []) ∷ []))
     -- Children of nodes that aren't exact aren't exact; merging gives the largest capacity.
-    ∷ case relaxing 1 lastExactLayer lowest (item 0 0 ∷ item 1 0 ∷ item 1 0 ∷ []) 1 (answer false (some (pos 0)) (4 ∷ 3 ∷ 0 ∷ []) none [] 7 8 (shown 1 (pos 0) (pos 0) 1 (0 ∷ []) ∷ []))
+    ∷ case relaxing 1 last_exact_layer lowest (item 0 0 ∷ item 1 0 ∷ item 1 0 ∷ []) 1 (answer false (some (pos 0)) (4 ∷ 3 ∷ 0 ∷ []) none [] 7 8 (shown 1 (pos 0) (pos 0) 1 (0 ∷ []) ∷ []))
     -- An edge from a parent that isn't exact clears the flag of a child that is there. Frontier: layers from last to first, parents of every node that isn't exact.
     ∷ case relaxing 2 frontier lowest (item 1 0 ∷ item 1 0 ∷ item 1 0 ∷ []) 2 (answer true (some (pos 0)) (4 ∷ 2 ∷ 0 ∷ []) (some (pos 0)) (4 ∷ 2 ∷ 0 ∷ []) 10 13 (shown 2 (pos 0) (pos 0) 2 (2 ∷ 0 ∷ []) ∷ shown 1 (pos 0) (pos 0) 1 (1 ∷ []) ∷ shown 2 (pos 0) (pos 0) 1 (0 ∷ []) ∷ []))
     -- The walk goes on above the terminal, past nodes that are neither exact nor relaxed. With another choice among the equal terminals the exact flag and the best exact value move.
-    ∷ case relaxing 2 lastExactLayer lowest (item 1 0 ∷ item 1 0 ∷ item 1 1 ∷ []) 2 (answer true (some (pos 1)) (5 ∷ 2 ∷ 0 ∷ []) (some (pos 1)) (5 ∷ 2 ∷ 0 ∷ []) 10 13 (shown 1 (pos 0) (pos 1) 1 (1 ∷ []) ∷ shown 2 (pos 0) (pos 1) 1 (0 ∷ []) ∷ []))
+    ∷ case relaxing 2 last_exact_layer lowest (item 1 0 ∷ item 1 0 ∷ item 1 1 ∷ []) 2 (answer true (some (pos 1)) (5 ∷ 2 ∷ 0 ∷ []) (some (pos 1)) (5 ∷ 2 ∷ 0 ∷ []) 10 13 (shown 1 (pos 0) (pos 1) 1 (1 ∷ []) ∷ shown 2 (pos 0) (pos 1) 1 (0 ∷ []) ∷ []))
     -- Exact diagrams drain theirs.
-    ∷ case relaxing 2 lastExactLayer lowest (item 1 0 ∷ item 1 0 ∷ item 0 0 ∷ []) 2 (answer true (some (pos 0)) (4 ∷ 2 ∷ 0 ∷ []) (some (pos 0)) (4 ∷ 2 ∷ 0 ∷ []) 9 13 (shown 1 (pos 0) (pos 0) 1 (1 ∷ []) ∷ shown 2 (pos 0) (pos 0) 1 (0 ∷ []) ∷ []))
+    ∷ case relaxing 2 last_exact_layer lowest (item 1 0 ∷ item 1 0 ∷ item 0 0 ∷ []) 2 (answer true (some (pos 0)) (4 ∷ 2 ∷ 0 ∷ []) (some (pos 0)) (4 ∷ 2 ∷ 0 ∷ []) 9 13 (shown 1 (pos 0) (pos 0) 1 (1 ∷ []) ∷ shown 2 (pos 0) (pos 0) 1 (0 ∷ []) ∷ []))
     -- A drained bound: value plus fast bound decides.
-    ∷ case relaxing 1 lastExactLayer lowest (item 1 0 ∷ item 0 0 ∷ item 1 1 ∷ []) 1 (answer false (some (pos 1)) (5 ∷ 3 ∷ 1 ∷ []) none [] 8 12 (shown 0 (pos 0) (pos 0) 1 (1 ∷ []) ∷ shown 1 (pos 0) (pos 1) 1 (0 ∷ []) ∷ []))
+    ∷ case relaxing 1 last_exact_layer lowest (item 1 0 ∷ item 0 0 ∷ item 1 1 ∷ []) 1 (answer false (some (pos 1)) (5 ∷ 3 ∷ 1 ∷ []) none [] 8 12 (shown 0 (pos 0) (pos 0) 1 (1 ∷ []) ∷ shown 1 (pos 0) (pos 1) 1 (0 ∷ []) ∷ []))
     -- A drained bound: value plus bottom value decides.
-    ∷ case relaxing 2 lastExactLayer lowest (item 1 0 ∷ item 1 1 ∷ item 2 1 ∷ []) 2 (answer false (some (pos 2)) (5 ∷ 3 ∷ 1 ∷ []) (some (pos 1)) (4 ∷ 3 ∷ 0 ∷ []) 10 11 (shown 1 (pos 0) (pos 1) 1 (1 ∷ []) ∷ shown 2 (pos 0) (pos 1) 1 (0 ∷ []) ∷ []))
+    ∷ case relaxing 2 last_exact_layer lowest (item 1 0 ∷ item 1 1 ∷ item 2 1 ∷ []) 2 (answer false (some (pos 2)) (5 ∷ 3 ∷ 1 ∷ []) (some (pos 1)) (4 ∷ 3 ∷ 0 ∷ []) 10 11 (shown 1 (pos 0) (pos 1) 1 (1 ∷ []) ∷ shown 2 (pos 0) (pos 1) 1 (0 ∷ []) ∷ []))
     -- Only marked cutset nodes are drained.
-    ∷ case relaxing 1 lastExactLayer (pos 0) (item 1 0 ∷ item 1 1 ∷ item 0 0 ∷ []) 1 (answer false (some (pos 1)) (4 ∷ 3 ∷ 0 ∷ []) none [] 7 8 (shown 1 (pos 0) (pos 1) 1 (0 ∷ []) ∷ []))
+    ∷ case relaxing 1 last_exact_layer (pos 0) (item 1 0 ∷ item 1 1 ∷ item 0 0 ∷ []) 1 (answer false (some (pos 1)) (4 ∷ 3 ∷ 0 ∷ []) none [] 7 8 (shown 1 (pos 0) (pos 1) 1 (0 ∷ []) ∷ []))
     -- After a squash, expansion in squash order: restricted; relaxed; the merged node last.
-    ∷ case restricted 2 lastExactLayer lowest (item 1 1 ∷ item 1 1 ∷ item 1 1 ∷ []) 2 (answer false (some (pos 2)) (5 ∷ 2 ∷ 1 ∷ []) (some (pos 2)) (5 ∷ 2 ∷ 1 ∷ []) 8 9 [])
-    ∷ case relaxing 3 lastExactLayer lowest (item 1 1 ∷ item 2 1 ∷ item 2 1 ∷ []) 3 (answer false (some (pos 2)) (5 ∷ 3 ∷ 0 ∷ []) (some (pos 2)) (5 ∷ 2 ∷ 1 ∷ []) 12 13 (shown 2 (pos 1) (pos 2) 1 (1 ∷ []) ∷ shown 3 (pos 0) (pos 2) 1 (0 ∷ []) ∷ []))
-    ∷ case relaxing 2 lastExactLayer lowest (item 1 0 ∷ item 2 1 ∷ item 2 1 ∷ []) 2 (answer false (some (pos 1)) (5 ∷ 2 ∷ 1 ∷ []) none [] 9 10 (shown 1 (pos 0) (pos 0) 1 (1 ∷ []) ∷ shown 2 (pos 0) (pos 1) 1 (0 ∷ []) ∷ []))
+    ∷ case restricted 2 last_exact_layer lowest (item 1 1 ∷ item 1 1 ∷ item 1 1 ∷ []) 2 (answer false (some (pos 2)) (5 ∷ 2 ∷ 1 ∷ []) (some (pos 2)) (5 ∷ 2 ∷ 1 ∷ []) 8 9 [])
+    ∷ case relaxing 3 last_exact_layer lowest (item 1 1 ∷ item 2 1 ∷ item 2 1 ∷ []) 3 (answer false (some (pos 2)) (5 ∷ 3 ∷ 0 ∷ []) (some (pos 2)) (5 ∷ 2 ∷ 1 ∷ []) 12 13 (shown 2 (pos 1) (pos 2) 1 (1 ∷ []) ∷ shown 3 (pos 0) (pos 2) 1 (0 ∷ []) ∷ []))
+    ∷ case relaxing 2 last_exact_layer lowest (item 1 0 ∷ item 2 1 ∷ item 2 1 ∷ []) 2 (answer false (some (pos 1)) (5 ∷ 2 ∷ 1 ∷ []) none [] 9 10 (shown 1 (pos 0) (pos 0) 1 (1 ∷ []) ∷ shown 2 (pos 0) (pos 1) 1 (0 ∷ []) ∷ []))
     -- Squashed and without a terminal: exact, without a value.
-    ∷ case relaxing 3 lastExactLayer (pos 1) (item 1 0 ∷ item 2 1 ∷ item 2 1 ∷ []) 3 (answer true none [] none [] 8 8 [])
+    ∷ case relaxing 3 last_exact_layer (pos 1) (item 1 0 ∷ item 2 1 ∷ item 2 1 ∷ []) 3 (answer true none [] none [] 8 8 [])
     -- The last exact layer is named once, by the first squash.
-    ∷ case relaxing 1 lastExactLayer lowest (item 0 0 ∷ item 1 0 ∷ item 1 0 ∷ item 0 0 ∷ []) 1 (answer false (some (pos 0)) (6 ∷ 5 ∷ 3 ∷ 0 ∷ []) none [] 9 12 (shown 1 (pos 0) (pos 0) 1 (0 ∷ []) ∷ []))
+    ∷ case relaxing 1 last_exact_layer lowest (item 0 0 ∷ item 1 0 ∷ item 1 0 ∷ item 0 0 ∷ []) 1 (answer false (some (pos 0)) (6 ∷ 5 ∷ 3 ∷ 0 ∷ []) none [] 9 12 (shown 1 (pos 0) (pos 0) 1 (0 ∷ []) ∷ []))
     -- Frontier: rows in order; deleted rows are looked at too.
     ∷ case relaxing 3 frontier lowest (item 1 0 ∷ item 2 0 ∷ item 1 1 ∷ item 0 0 ∷ []) 3 (answer false (some (pos 1)) (6 ∷ 5 ∷ 3 ∷ 1 ∷ []) (some (pos 1)) (6 ∷ 5 ∷ 2 ∷ 0 ∷ []) 16 22 (shown 2 (pos 0) (pos 1) 2 (2 ∷ 1 ∷ []) ∷ shown 3 (pos 0) (pos 1) 2 (2 ∷ 0 ∷ []) ∷ shown 2 (pos 0) (pos 1) 1 (1 ∷ []) ∷ shown 3 (pos 0) (pos 1) 1 (0 ∷ []) ∷ []))
     ∷ case relaxing 3 frontier lowest (item 1 0 ∷ item 2 0 ∷ item 2 0 ∷ item 0 0 ∷ []) 3 (answer true (some (pos 0)) (6 ∷ 4 ∷ 2 ∷ 0 ∷ []) (some (pos 0)) (6 ∷ 4 ∷ 2 ∷ 0 ∷ []) 16 22 (shown 3 (pos 0) (pos 0) 2 (2 ∷ 0 ∷ []) ∷ shown 2 (pos 0) (pos 0) 2 (2 ∷ 1 ∷ []) ∷ shown 2 (pos 0) (pos 0) 1 (1 ∷ []) ∷ shown 3 (pos 0) (pos 0) 1 (0 ∷ []) ∷ []))
     -- Rule 5, relaxed: a layer of just as many nodes as the width is not squashed (T, width 3).
-    ∷ case relaxing 3 lastExactLayer lowest (item 1 4 ∷ item 1 3 ∷ item 1 2 ∷ []) 2 (answer true (some (pos 7)) (4 ∷ 3 ∷ 1 ∷ []) (some (pos 7)) (4 ∷ 3 ∷ 1 ∷ []) 9 11 [])
+    ∷ case relaxing 3 last_exact_layer lowest (item 1 4 ∷ item 1 3 ∷ item 1 2 ∷ []) 2 (answer true (some (pos 7)) (4 ∷ 3 ∷ 1 ∷ []) (some (pos 7)) (4 ∷ 3 ∷ 1 ∷ []) 9 11 [])
     -- From a deeper record: its value is the root's, items from its depth on are decided, by their own bytes, and its path stands first (T from H's first record).
-    ∷ case_from relaxing 1 lastExactLayer lowest (item 1 4 ∷ item 1 3 ∷ item 1 2 ∷ []) (shown 1 (pos 4) (pos 9) 1 (1 ∷ [])) (answer true (some (pos 7)) (1 ∷ 4 ∷ 3 ∷ []) (some (pos 7)) (1 ∷ 4 ∷ 3 ∷ []) 5 5 [])
+    ∷ case_from relaxing 1 last_exact_layer lowest (item 1 4 ∷ item 1 3 ∷ item 1 2 ∷ []) (shown 1 (pos 4) (pos 9) 1 (1 ∷ [])) (answer true (some (pos 7)) (1 ∷ 4 ∷ 3 ∷ []) (some (pos 7)) (1 ∷ 4 ∷ 3 ∷ []) 5 5 [])
     -- From a deeper record whose path isn't in the order of items, one item left.
-    ∷ case_from relaxing 1 lastExactLayer lowest (item 1 4 ∷ item 1 3 ∷ item 1 2 ∷ []) (shown 1 (pos 3) (pos 5) 2 (3 ∷ 0 ∷ [])) (answer true (some (pos 5)) (3 ∷ 0 ∷ 5 ∷ []) (some (pos 5)) (3 ∷ 0 ∷ 5 ∷ []) 3 2 [])
+    ∷ case_from relaxing 1 last_exact_layer lowest (item 1 4 ∷ item 1 3 ∷ item 1 2 ∷ []) (shown 1 (pos 3) (pos 5) 2 (3 ∷ 0 ∷ [])) (answer true (some (pos 5)) (3 ∷ 0 ∷ 5 ∷ []) (some (pos 5)) (3 ∷ 0 ∷ 5 ∷ []) 3 2 [])
     -- From a record that decides every item: its value and its path, whatever the lower bound.
-    ∷ case_from relaxing 1 lastExactLayer (pos 10) (item 1 4 ∷ item 1 3 ∷ item 1 2 ∷ []) (shown 0 (pos 7) (pos 7) 3 (1 ∷ 4 ∷ 3 ∷ [])) (answer true (some (pos 7)) (1 ∷ 4 ∷ 3 ∷ []) (some (pos 7)) (1 ∷ 4 ∷ 3 ∷ []) 1 0 [])
+    ∷ case_from relaxing 1 last_exact_layer (pos 10) (item 1 4 ∷ item 1 3 ∷ item 1 2 ∷ []) (shown 0 (pos 7) (pos 7) 3 (1 ∷ 4 ∷ 3 ∷ [])) (answer true (some (pos 7)) (1 ∷ 4 ∷ 3 ∷ []) (some (pos 7)) (1 ∷ 4 ∷ 3 ∷ []) 1 0 [])
     -- From a deeper record, squashed: drained records stand on it, with its path first (last exact layer, frontier).
-    ∷ case_from relaxing 1 lastExactLayer lowest (item 1 5 ∷ item 1 4 ∷ item 1 3 ∷ item 1 2 ∷ []) (shown 2 (pos 5) (pos 14) 1 (1 ∷ [])) (answer false (some (pos 14)) (1 ∷ 7 ∷ 5 ∷ 3 ∷ []) none [] 9 12 (shown 1 (pos 9) (pos 14) 2 (1 ∷ 3 ∷ []) ∷ shown 2 (pos 5) (pos 10) 2 (1 ∷ 2 ∷ []) ∷ []))
+    ∷ case_from relaxing 1 last_exact_layer lowest (item 1 5 ∷ item 1 4 ∷ item 1 3 ∷ item 1 2 ∷ []) (shown 2 (pos 5) (pos 14) 1 (1 ∷ [])) (answer false (some (pos 14)) (1 ∷ 7 ∷ 5 ∷ 3 ∷ []) none [] 9 12 (shown 1 (pos 9) (pos 14) 2 (1 ∷ 3 ∷ []) ∷ shown 2 (pos 5) (pos 10) 2 (1 ∷ 2 ∷ []) ∷ []))
     ∷ case_from relaxing 1 frontier lowest (item 1 5 ∷ item 1 4 ∷ item 1 3 ∷ item 1 2 ∷ []) (shown 2 (pos 5) (pos 14) 1 (1 ∷ [])) (answer false (some (pos 14)) (1 ∷ 7 ∷ 5 ∷ 3 ∷ []) none [] 9 12 (shown 2 (pos 5) (pos 10) 2 (1 ∷ 2 ∷ []) ∷ shown 1 (pos 9) (pos 14) 2 (1 ∷ 3 ∷ []) ∷ []))
     ∷ []
 
@@ -107,7 +107,7 @@ lent_from node_room edge_room mode width kind lower items start figures =
 unfoldable pub tables : List TableCase
 tables =
     -- A squashed run that dies out with items left stores 0..0, and marks nothing.
-    lent 1024 1792 relaxing 3 lastExactLayer (pos 1) (item 1 0 ∷ item 2 1 ∷ item 0 0 ∷ item 2 1 ∷ []) 3 (record {
+    lent 1024 1792 relaxing 3 last_exact_layer (pos 1) (item 1 0 ∷ item 2 1 ∷ item 0 0 ∷ item 2 1 ∷ []) 3 (record {
       number = 0;
       nodes = (node 3 0 (pos 0) lowest 0 0 (pos 2) (E ∷ [])
           ∷ node 2 1 (pos 0) lowest 1 1 (pos 2) (E ∷ C ∷ [])
@@ -130,7 +130,7 @@ tables =
       layers = (range 0 0 ∷ range 3 8 ∷ range 1 3 ∷ range 0 1 ∷ []);
     })
     -- A deleted row keeps its best edge, an older one than its newest; the merged row's best edge is the better of those that were copied.
-    ∷ lent 1024 1792 relaxing 2 lastExactLayer lowest (item 1 1 ∷ item 1 2 ∷ item 1 1 ∷ []) 3 (record {
+    ∷ lent 1024 1792 relaxing 2 last_exact_layer lowest (item 1 1 ∷ item 1 2 ∷ item 1 1 ∷ []) 3 (record {
       number = 0;
       nodes = (node 3 0 (pos 0) (pos 4) 0 0 (pos 4) (E ∷ M ∷ [])
           ∷ node 2 1 (pos 1) (pos 3) 1 1 (pos 3) (E ∷ M ∷ C ∷ [])
@@ -161,7 +161,7 @@ tables =
       layers = (range 7 11 ∷ range 3 7 ∷ range 1 3 ∷ range 0 1 ∷ []);
     })
     -- One that dies out at the last item stores nothing more: the rows of its last stored layer, a deleted one too, get 0 and a mark and pass it up.
-    ∷ lent 1024 1792 relaxing 3 lastExactLayer (pos 1) (item 1 0 ∷ item 2 1 ∷ item 2 1 ∷ []) 3 (record {
+    ∷ lent 1024 1792 relaxing 3 last_exact_layer (pos 1) (item 1 0 ∷ item 2 1 ∷ item 2 1 ∷ []) 3 (record {
       number = 0;
       nodes = (node 3 0 (pos 0) (pos 1) 0 0 (pos 2) (E ∷ M ∷ [])
           ∷ node 2 1 (pos 0) (pos 1) 1 1 (pos 2) (E ∷ M ∷ C ∷ [])
@@ -184,7 +184,7 @@ tables =
       layers = (range 3 8 ∷ range 1 3 ∷ range 0 1 ∷ []);
     })
     -- The cutset flag stands on every listed row, marked or not.
-    ∷ lent 1024 1792 relaxing 1 lastExactLayer (pos 0) (item 1 0 ∷ item 1 1 ∷ item 0 0 ∷ []) 1 (record {
+    ∷ lent 1024 1792 relaxing 1 last_exact_layer (pos 0) (item 1 0 ∷ item 1 1 ∷ item 0 0 ∷ []) 1 (record {
       number = 0;
       nodes = (node 1 0 (pos 0) (pos 1) 0 0 (pos 1) (E ∷ M ∷ [])
           ∷ node 0 1 (pos 0) lowest 1 1 (pos 0) (E ∷ C ∷ [])
@@ -206,14 +206,14 @@ tables =
       layers = (range 6 7 ∷ range 3 6 ∷ range 1 3 ∷ range 0 1 ∷ []);
     })
     -- No node row lent is 11, nothing written.
-    ∷ lent 0 1792 relaxing 1 lastExactLayer lowest (item 1 4 ∷ item 1 3 ∷ item 1 2 ∷ []) 2 (record {
+    ∷ lent 0 1792 relaxing 1 last_exact_layer lowest (item 1 4 ∷ item 1 3 ∷ item 1 2 ∷ []) 2 (record {
       number = 11;
       nodes = [];
       edges = [];
       layers = [];
     })
     -- The parent's fast bound is written before its children; for one child 11 comes before 12.
-    ∷ lent 1 0 relaxing 1 lastExactLayer lowest (item 1 4 ∷ item 1 3 ∷ item 1 2 ∷ []) 2 (record {
+    ∷ lent 1 0 relaxing 1 last_exact_layer lowest (item 1 4 ∷ item 1 3 ∷ item 1 2 ∷ []) 2 (record {
       number = 11;
       nodes = (node 2 0 (pos 0) lowest 0 0 (pos 9) (E ∷ [])
           ∷ []);
@@ -221,7 +221,7 @@ tables =
       layers = (range 0 1 ∷ []);
     })
     -- A child is nothing, or node and edge: no edge room, so no row.
-    ∷ lent 1024 0 relaxing 1 lastExactLayer lowest (item 1 4 ∷ item 1 3 ∷ item 1 2 ∷ []) 2 (record {
+    ∷ lent 1024 0 relaxing 1 last_exact_layer lowest (item 1 4 ∷ item 1 3 ∷ item 1 2 ∷ []) 2 (record {
       number = 12;
       nodes = (node 2 0 (pos 0) lowest 0 0 (pos 9) (E ∷ [])
           ∷ []);
@@ -229,7 +229,7 @@ tables =
       layers = (range 0 1 ∷ []);
     })
     -- No room for one more edge to a child that is there.
-    ∷ lent 1024 5 relaxing 1 lastExactLayer lowest (item 1 4 ∷ item 1 3 ∷ item 1 2 ∷ []) 2 (record {
+    ∷ lent 1024 5 relaxing 1 last_exact_layer lowest (item 1 4 ∷ item 1 3 ∷ item 1 2 ∷ []) 2 (record {
       number = 12;
       nodes = (node 2 0 (pos 0) lowest 0 0 (pos 9) (E ∷ [])
           ∷ node 1 1 (pos 4) lowest 1 1 (pos 5) (E ∷ [])
@@ -247,7 +247,7 @@ tables =
       layers = (range 1 3 ∷ range 0 1 ∷ []);
     })
     -- No room for the merged row: nothing of it, no deleted flag.
-    ∷ lent 6 1792 relaxing 1 lastExactLayer lowest (item 1 4 ∷ item 1 3 ∷ item 1 2 ∷ []) 2 (record {
+    ∷ lent 6 1792 relaxing 1 last_exact_layer lowest (item 1 4 ∷ item 1 3 ∷ item 1 2 ∷ []) 2 (record {
       number = 11;
       nodes = (node 2 0 (pos 0) lowest 0 0 (pos 9) (E ∷ [])
           ∷ node 1 1 (pos 4) lowest 1 1 (pos 5) (E ∷ [])
@@ -266,7 +266,7 @@ tables =
       layers = (range 1 3 ∷ range 0 1 ∷ []);
     })
     -- The merged row stays if its first copied edge finds no room; the first merged node is flagged, later ones aren't yet.
-    ∷ lent 1024 6 relaxing 1 lastExactLayer lowest (item 1 4 ∷ item 1 3 ∷ item 1 2 ∷ []) 2 (record {
+    ∷ lent 1024 6 relaxing 1 last_exact_layer lowest (item 1 4 ∷ item 1 3 ∷ item 1 2 ∷ []) 2 (record {
       number = 12;
       nodes = (node 2 0 (pos 0) lowest 0 0 (pos 9) (E ∷ [])
           ∷ node 1 1 (pos 4) lowest 1 1 (pos 5) (E ∷ [])
@@ -286,7 +286,7 @@ tables =
       layers = (range 1 3 ∷ range 0 1 ∷ []);
     })
     -- No room for the second merged node's first edge: the first node's is copied, the second is flagged.
-    ∷ lent 1024 7 relaxing 1 lastExactLayer lowest (item 1 4 ∷ item 1 3 ∷ item 1 2 ∷ []) 2 (record {
+    ∷ lent 1024 7 relaxing 1 last_exact_layer lowest (item 1 4 ∷ item 1 3 ∷ item 1 2 ∷ []) 2 (record {
       number = 12;
       nodes = (node 2 0 (pos 0) lowest 0 0 (pos 9) (E ∷ [])
           ∷ node 1 1 (pos 4) lowest 1 1 (pos 5) (E ∷ [])
@@ -307,7 +307,7 @@ tables =
       layers = (range 1 3 ∷ range 0 1 ∷ []);
     })
     -- A restricted squash flags deleted, and there is neither a cutset flag nor a mark (case J).
-    ∷ lent 1024 1792 restricted 1 lastExactLayer lowest (item 1 4 ∷ item 1 3 ∷ item 1 2 ∷ []) 2 (record {
+    ∷ lent 1024 1792 restricted 1 last_exact_layer lowest (item 1 4 ∷ item 1 3 ∷ item 1 2 ∷ []) 2 (record {
       number = 0;
       nodes = (node 2 0 (pos 0) lowest 0 0 (pos 9) (E ∷ [])
           ∷ node 1 1 (pos 4) lowest 1 1 (pos 5) (E ∷ [])
@@ -325,7 +325,7 @@ tables =
       layers = (range 5 6 ∷ range 3 5 ∷ range 1 3 ∷ range 0 1 ∷ []);
     })
     -- A relaxed run without a squash has neither a cutset flag nor a mark (T, width 3).
-    ∷ lent 1024 1792 relaxing 3 lastExactLayer lowest (item 1 4 ∷ item 1 3 ∷ item 1 2 ∷ []) 2 (record {
+    ∷ lent 1024 1792 relaxing 3 last_exact_layer lowest (item 1 4 ∷ item 1 3 ∷ item 1 2 ∷ []) 2 (record {
       number = 0;
       nodes = (node 2 0 (pos 0) lowest 0 0 (pos 9) (E ∷ [])
           ∷ node 1 1 (pos 4) lowest 1 1 (pos 5) (E ∷ [])
@@ -352,7 +352,7 @@ tables =
       layers = (range 6 9 ∷ range 3 6 ∷ range 1 3 ∷ range 0 1 ∷ []);
     })
     -- From a deeper record: row 0 has the record's capacity, depth and value; edges have the bytes of items from its depth on (T from H's first record).
-    ∷ lent_from 1024 1792 relaxing 1 lastExactLayer lowest (item 1 4 ∷ item 1 3 ∷ item 1 2 ∷ []) (shown 1 (pos 4) (pos 9) 1 (1 ∷ [])) (record {
+    ∷ lent_from 1024 1792 relaxing 1 last_exact_layer lowest (item 1 4 ∷ item 1 3 ∷ item 1 2 ∷ []) (shown 1 (pos 4) (pos 9) 1 (1 ∷ [])) (record {
       number = 0;
       nodes = (node 1 1 (pos 4) lowest 0 0 (pos 5) (E ∷ [])
           ∷ node 0 2 (pos 7) lowest 1 1 (pos 0) (E ∷ [])
@@ -369,7 +369,7 @@ tables =
       layers = (range 3 5 ∷ range 1 3 ∷ range 0 1 ∷ []);
     })
     -- From a deeper record, squashed: the merged row has the depth of those that it stands for.
-    ∷ lent_from 1024 1792 relaxing 1 lastExactLayer lowest (item 1 5 ∷ item 1 4 ∷ item 1 3 ∷ item 1 2 ∷ []) (shown 2 (pos 5) (pos 14) 1 (1 ∷ [])) (record {
+    ∷ lent_from 1024 1792 relaxing 1 last_exact_layer lowest (item 1 5 ∷ item 1 4 ∷ item 1 3 ∷ item 1 2 ∷ []) (shown 2 (pos 5) (pos 14) 1 (1 ∷ [])) (record {
       number = 0;
       nodes = (node 2 1 (pos 5) (pos 9) 0 0 (pos 9) (E ∷ M ∷ [])
           ∷ node 1 2 (pos 9) (pos 5) 1 1 (pos 5) (E ∷ M ∷ C ∷ [])

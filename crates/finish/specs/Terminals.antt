@@ -34,11 +34,11 @@ abbrev pub with_row : (Def.Node → Bool) → List Def.Node → ℕ → Found �
 with_row kind ns r behind = cond (kind (node_at ns r)) (better ns r behind) behind
 
 -- row r beside the best of the rows behind it gives b
-pub record Bettered (t : List ℕ) (r : ℕ) (behind : Best) (exactOnly : Bool) (b : Best) : Type 0 where
-  pub does : (ns : List Def.Node) (old : List ℕ) → t ≡ over (node_table ns) old → r < length ns → Within 0 (length ns) behind → row_of b ≡ with_row (among exactOnly) ns r (row_of behind)
+pub record Bettered (t : List ℕ) (r : ℕ) (behind : Best) (exact_only : Bool) (b : Best) : Type 0 where
+  pub does : (ns : List Def.Node) (old : List ℕ) → t ≡ over (node_table ns) old → r < length ns → Within 0 (length ns) behind → row_of b ≡ with_row (among exact_only) ns r (row_of behind)
   pub inside : (lo hi : ℕ) → lo ≤ r → r < hi → Within lo hi behind → Within lo hi b
 
 -- b is the best of the rows from start to count
-pub record BestFound (t : List ℕ) (start count : ℕ) (exactOnly : Bool) (b : Best) : Type 0 where
-  pub does : (ns : List Def.Node) (old : List ℕ) → t ≡ over (node_table ns) old → count ≤ length ns → row_of b ≡ best_of (among exactOnly) ns (rows_from start (count - start))
+pub record BestFound (t : List ℕ) (start count : ℕ) (exact_only : Bool) (b : Best) : Type 0 where
+  pub does : (ns : List Def.Node) (old : List ℕ) → t ≡ over (node_table ns) old → count ≤ length ns → row_of b ≡ best_of (among exact_only) ns (rows_from start (count - start))
   pub inside : Within start count b

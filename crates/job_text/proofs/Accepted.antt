@@ -9,7 +9,7 @@ use lib.Dec.{eqb}
 use lib.ListN.{length}
 use borrow.Author.Tests.{eqb-true, eq-eqb}
 use Rattle.knapsack.specs.Items.{Item}
-use Rattle.diagram.specs.After4.{CutsetKind, lastExactLayer, frontier}
+use Rattle.diagram.specs.After4.{CutsetKind, last_exact_layer, frontier}
 use Rattle.theorems.proofs.Bool.{and_true, and_right}
 use Rattle.jobs.specs.Text.{Job, text_of, nine_digits, SmallItems, most_bytes, IsText}
 use Rattle.cutset.specs.declared.Kind.{Kind}
@@ -138,7 +138,7 @@ accepted t fits part_is at_start =
     }
 
 pub kind_back : (k : CutsetKind) → kind_of (kind_from k) ≡ k
-kind_back lastExactLayer = refl
+kind_back last_exact_layer = refl
 kind_back frontier = refl
 
 pub kind_there : (k : Kind) → kind_from (kind_of k) ≡ k

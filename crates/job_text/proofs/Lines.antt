@@ -3,7 +3,7 @@ use mathlib.Core.Path.{◌≡◌, refl, sym, ap, subst, ◌∙◌}
 use mathlib.Core.List.{List, [], ◌∷◌, ◌++◌, append_assoc, append-nil}
 use Prim.Native.Nat.{ℕ, ◌<◌}
 use Rattle.knapsack.specs.Items.{Item}
-use Rattle.diagram.specs.After4.{CutsetKind, lastExactLayer, frontier}
+use Rattle.diagram.specs.After4.{CutsetKind, last_exact_layer, frontier}
 use Rattle.numbers.specs.Decimal.{decimal}
 use Rattle.jobs.specs.Text.{Job, cap, width, cut, item, LF, TAB, line, line3, cut_name, items_text, text_of, nine_digits, SmallItems, IsText}
 use Rattle.cutset.specs.declared.Kind.{Kind}
@@ -32,7 +32,7 @@ item_word m h is rest = refl
 
 cut_line : (m c w x : ℕ) (k : Kind) (is : List Item) (name : CutsetKind) → run_from (line cut (cut_name name)) (at CutWord 0 m (head_with c w k x) is) ≡ at ItemWord 0 m (head_with c w (kind_from name) x) is
 unfolding run_from step_of moved_to next_of next_from spelled_of chosen_of head_of ends_item line cut_name
-cut_line m c w x k is lastExactLayer = refl
+cut_line m c w x k is last_exact_layer = refl
 cut_line m c w x k is frontier = refl
 
 -- the ends of numbers

@@ -1,6 +1,6 @@
 -- What is read from a text: its job, or nothing where it is no job's text.
 use Rattle.std.specs.Prelude.{true, false, cond, ◌≡◌, List, ℕ, length, replicate}
-use Rattle.diagram.specs.After4.{CutsetKind, lastExactLayer, frontier}
+use Rattle.diagram.specs.After4.{CutsetKind, last_exact_layer, frontier}
 use Rattle.jobs.specs.Text.{Job, IsText}
 use Rattle.cutset.specs.declared.Kind.{Kind}
 use Rattle.cutset.specs.declared.Kind.TheVariants.{LastExactLayer, Frontier}
@@ -11,7 +11,7 @@ use Rattle.job_text.specs.Kept.{room, weights_in, profits_in}
 
 -- the cutset kind as the code has it
 abbrev pub kind_from : CutsetKind → Kind
-kind_from lastExactLayer = LastExactLayer
+kind_from last_exact_layer = LastExactLayer
 kind_from frontier = Frontier
 
 -- a job as the code has it: the first 64 items, 0 behind them, and the number of all

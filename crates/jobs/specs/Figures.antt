@@ -2,7 +2,7 @@
 use Rattle.std.specs.Prelude.{◌≡◌, ℕ, ◌≤◌, pos, negsuc, length, replicate}
 use mathlib.Core.List.{List, [], ◌∷◌, ◌++◌, Memᴰ}
 use Rattle.knapsack.specs.Items.{Item}
-use Rattle.diagram.specs.After4.{lastExactLayer, frontier}
+use Rattle.diagram.specs.After4.{last_exact_layer, frontier}
 use Rattle.calls.specs.Compile.{Lent}
 use Rattle.searches.specs.Places.{Place}
 use Rattle.searches.specs.Pick.{Held}
@@ -16,7 +16,7 @@ abbrev block : ℕ → ℕ → Item
 block w p = record { weight = w; profit = p }
 
 abbrev R : Job
-R = record { page = 2; width = 1; kind = lastExactLayer; items = block 1 4 ∷ block 1 3 ∷ block 1 2 ∷ [] }
+R = record { page = 2; width = 1; kind = last_exact_layer; items = block 1 4 ∷ block 1 3 ∷ block 1 2 ∷ [] }
 
 abbrev old : Place
 old = record { capacity = 9; value = pos 9; bound = pos 9; depth = 9; bytes = replicate 64 9 }

@@ -1,7 +1,7 @@
 -- 'Oracle and job text': the one text that a job has. That a text is that of one job at most is the law `one_job` of job_text/proofs/Accepted.antt.
 use Rattle.std.specs.Prelude.{◌≡◌, List, [], ◌∷◌, ◌++◌, ℕ, ◌<◌, ◌≤◌, length}
 use Rattle.knapsack.specs.Items.{Item}
-use Rattle.diagram.specs.After4.{CutsetKind, lastExactLayer, frontier}
+use Rattle.diagram.specs.After4.{CutsetKind, last_exact_layer, frontier}
 use Rattle.numbers.specs.Decimal.{decimal}
 
 pub record Job : Type 0 where
@@ -45,7 +45,7 @@ line3 name value more = name ++ (TAB ∷ value ++ (TAB ∷ more ++ (LF ∷ [])))
 
 -- '`cut` with `lel` or `frontier`'
 unfoldable pub cut_name : CutsetKind → List ℕ
-cut_name lastExactLayer = lel
+cut_name last_exact_layer = lel
 cut_name frontier = frontier_word
 
 -- 'then any number of `item` weight profit'

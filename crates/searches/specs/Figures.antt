@@ -1,7 +1,7 @@
 -- Case N, 'search of H, picks 0 0 0', 'path 1 4 3, value 7', pick by pick, and the refusals of start and pick, as whole calls.
 use Rattle.std.specs.Prelude.{◌≡◌, Bool, true, false, List, [], ◌∷◌, ◌++◌, ℕ, ℤ, pos, replicate}
 use Rattle.words.specs.I64.{i64_min, i64_max}
-use Rattle.diagram.specs.After4.{lastExactLayer}
+use Rattle.diagram.specs.After4.{last_exact_layer}
 use Rattle.calls.specs.Asked.{Problem}
 use Rattle.calls.specs.Compile.{Lent}
 use Rattle.searches.specs.Places.{Place}
@@ -72,10 +72,10 @@ see answer search list scratch = record { answer = answer; search = search; list
 
 -- a pick of place 0 at width 1
 abbrev first : Search → List Place → List ℕ → Seen
-first s list scratch = seen (pick (record { problem = T 1; kind = lastExactLayer; place = 0 }) s (held list scratch))
+first s list scratch = seen (pick (record { problem = T 1; kind = last_exact_layer; place = 0 }) s (held list scratch))
 
 abbrev at : ℕ → ℕ → Search → List Place → List ℕ → Seen
-at width n s list scratch = seen (pick (record { problem = T width; kind = lastExactLayer; place = n }) s (held list scratch))
+at width n s list scratch = seen (pick (record { problem = T width; kind = last_exact_layer; place = n }) s (held list scratch))
 
 -- a scratch list of one place, of two and of three, before anyone wrote it
 abbrev one : List ℕ
@@ -140,7 +140,7 @@ drained_u = (1 ∷ 9223372036854775809 ∷ 9223372036854775811 ∷ 1 ∷ 1 ∷ r
 
 abbrev root_u : Search → List Place → List ℕ → Seen
 root_u s list scratch =
-    seen (pick (record { problem = U; kind = lastExactLayer; place = 0 }) s (record { list = list; lent = record { nodes = replicate 80 0; edges = replicate 60 0; records = scratch } }))
+    seen (pick (record { problem = U; kind = last_exact_layer; place = 0 }) s (record { list = list; lent = record { nodes = replicate 80 0; edges = replicate 60 0; records = scratch } }))
 
 -- slips: a drained record is not appended where its bound equals the best value that the same pick found; the middle one of three goes, the last one moves down, and what it left stays; the bound alone says whether a record is compiled, not its value
 abbrev pub Slips : Type 0

@@ -11,7 +11,7 @@ use Rattle.knapsack.specs.Best.{best}
 use Rattle.knapsack.specs.Items.{Item}
 use Rattle.knapsack.proofs.Best.{best_no_items}
 use Rattle.knapsack.proofs.Cases.{by_test}
-use Rattle.diagram.specs.After4.{lastExactLayer, frontier, Cutset, list_row, list_rows, layer_cutset, frontier_edges, frontier_rows, frontier_layers, no_cutset, cutset_of}
+use Rattle.diagram.specs.After4.{last_exact_layer, frontier, Cutset, list_row, list_rows, layer_cutset, frontier_edges, frontier_rows, frontier_layers, no_cutset, cutset_of}
 use Rattle.diagram.specs.Node.{Node, Edge, node_at, edge_at, in_cutset}
 use Rattle.diagram.specs.Tables.{Range, LastExact, squashed_after, Diagram, rows_of, coming, inbound}
 use Rattle.theorems.proofs.Bool.{and_both}
@@ -240,12 +240,12 @@ tower_above items lower d S (more a b s t) (mathlib.Core.List.Memᴰ.tail m) = t
 above_row : (items : List Item) (lower : ℕ) (d : Diagram) (x : ℕ) {U S : Range} {ks : List Range} → lower < x → x ≤ top → (node_at d.nodes 0).deleted ≡ false → x ≤ potential items (node_at d.nodes 0) → Tower items lower d (U ∷ S ∷ ks) → (i : InRange items d S x) × Noted items (node_at d.nodes i.row)
 above_row items lower d x hb ht hd hx (more a b s t) = let i = tower_has items lower d x hb ht hd hx t in (i, (s i.row i.lo_is i.hi_is i.live).noted)
 
-pub last_cut : (d : Diagram) (s : Range) → d.last ≡ squashed_after s → cutset_of lastExactLayer d ≡ list_rows (rows_of s) (no_cutset d)
+pub last_cut : (d : Diagram) (s : Range) → d.last ≡ squashed_after s → cutset_of last_exact_layer d ≡ list_rows (rows_of s) (no_cutset d)
 unfolding cutset_of layer_cutset
 last_cut d s e = ap (λ (l : LastExact). layer_cutset l (no_cutset d)) e
 
 -- The last exact layer: a row of it is worth x.
-pub last_layer_lemma : (items : List Item) (lower : ℕ) (r₀ : Node) (d : Diagram) (x : ℕ) (s : Range) → lower < x → x ≤ top → Finished items lower r₀ d → Sound items r₀ d → d.last ≡ squashed_after s → LastLayer d s → d.start < length d.nodes → (node_at d.nodes 0).deleted ≡ false → x ≤ potential items (node_at d.nodes 0) → CutRow items d x (cutset_of lastExactLayer d).listed
+pub last_layer_lemma : (items : List Item) (lower : ℕ) (r₀ : Node) (d : Diagram) (x : ℕ) (s : Range) → lower < x → x ≤ top → Finished items lower r₀ d → Sound items r₀ d → d.last ≡ squashed_after s → LastLayer d s → d.start < length d.nodes → (node_at d.nodes 0).deleted ≡ false → x ≤ potential items (node_at d.nodes 0) → CutRow items d x (cutset_of last_exact_layer d).listed
 unfolding coming no_cutset
 last_layer_lemma items lower r₀ d x s hb ht f w le q hn hd hx =
     let m : Memᴰ s f.under = ⊎_elim (λ k. absurd (omega (arith, q.done, ap (λ (z : Range). z.hi) k))) (λ k. k) (mathlib.Core.List.Memᴰ.cases_cons (subst (λ (z : List Range). Memᴰ s z) (f.stored hn) q.stored)) in

@@ -12,7 +12,7 @@ use Rattle.knapsack.proofs.Cases.{by_test}
 use Rattle.knapsack.proofs.FastBound.{fast_bound_at_least_best}
 use Rattle.diagram.specs.After1.{terminals, best_of, best_node, exact_path, best_exact_node}
 use Rattle.diagram.specs.After2.{never_squashed, is_exact}
-use Rattle.diagram.specs.After4.{CutsetKind, lastExactLayer, frontier, layer_cutset, no_cutset, cutset_of, cutset_for}
+use Rattle.diagram.specs.After4.{CutsetKind, last_exact_layer, frontier, layer_cutset, no_cutset, cutset_of, cutset_for}
 use Rattle.diagram.specs.After5.{local_bounds}
 use Rattle.diagram.specs.After6.{Outcome, outcome, drained_bound, drained_record, drain_rows, drain_for, drained}
 use Rattle.diagram.specs.Node.{Node, node_at}
@@ -42,7 +42,7 @@ layer_listing items r₀ d w ll sl (squashed_after s) e =
 pub cut_listing : (items : List Item) (r₀ : Node) (k : CutsetKind) (d : Diagram) → Sound items r₀ d → ((s : Range) → d.last ≡ squashed_after s → LastLayer d s) → d.start ≤ length d.nodes → Listing d.nodes (cutset_of k d)
 unfolding cutset_of no_cutset
 cut_listing items r₀ frontier d w ll sl = (layers_added d.nodes d.edges d.layers _ (start_listing d.nodes w.clean)).listing
-cut_listing items r₀ lastExactLayer d w ll sl = layer_listing items r₀ d w ll sl d.last refl
+cut_listing items r₀ last_exact_layer d w ll sl = layer_listing items r₀ d w ll sl d.last refl
 
 -- a record that leads to x
 pub record LeadsTo (items : List Item) (x : ℕ) (rs : List Record) : Type 0 where
@@ -147,7 +147,7 @@ module _ (items : List Item) (lower : ℕ) (r₀ : Node) (d : Diagram) (x : ℕ)
     where
       go : (k' : CutsetKind) → k ≡ k' → (node_at d.nodes 0).deleted ≡ false → x ≤ potential items (node_at d.nodes 0) → Tops (outcome relaxing k d).diagram.nodes x (outcome relaxing k d).best_exact ⊎ LeadsTo items x (drained pre (outcome relaxing k d))
       go frontier e d0 p0 = ⊎_elim (λ c. inr (row_leads (subst (λ (z : CutsetKind). CutRow items d x (cutset_of z d).listed) (sym e) c))) (λ z. inl (exact_leads z)) (frontier_lemma items lower r₀ d x s hb ht f w (ll s le) full d0 p0)
-      go lastExactLayer e d0 p0 = inr (row_leads (subst (λ (z : CutsetKind). CutRow items d x (cutset_of z d).listed) (sym e) (last_layer_lemma items lower r₀ d x s hb ht f w le (ll s le) full d0 p0)))
+      go last_exact_layer e d0 p0 = inr (row_leads (subst (λ (z : CutsetKind). CutRow items d x (cutset_of z d).listed) (sym e) (last_layer_lemma items lower r₀ d x s hb ht f w le (ll s le) full d0 p0)))
 
 -- ---- an exact outcome
 

@@ -11,7 +11,7 @@ use Rattle.words.specs.I64.{top}
 use Rattle.knapsack.specs.Items.{Item, no_item}
 use Rattle.knapsack.proofs.Cases.{by_test}
 use Rattle.diagram.specs.After3.{decisions_up, path_to}
-use Rattle.diagram.specs.After4.{CutsetKind, lastExactLayer, frontier, Cutset, list_row, list_rows, layer_cutset, frontier_edges, frontier_rows, frontier_layers, no_cutset, cutset_of}
+use Rattle.diagram.specs.After4.{CutsetKind, last_exact_layer, frontier, Cutset, list_row, list_rows, layer_cutset, frontier_edges, frontier_rows, frontier_layers, no_cutset, cutset_of}
 use Rattle.diagram.specs.After6.{Outcome, outcome, drained_record, drain_rows, drain_for, drained}
 use Rattle.diagram.specs.Node.{Node, Edge, node_at, edge_at, fresh}
 use Rattle.diagram.specs.Record.{Record}
@@ -190,7 +190,7 @@ cut_deeper items frontier d r₀ w wi ex sl b₀ h₀ =
     layers_all (λ r. r₀.depth < (node_at d.nodes r).depth) d.nodes d.edges d.layers (no_cutset d) (empty_listing d w.clean)
     (λ r e x l q. let a = wi.arrows e l in let f = ex.far _ a.to_in (subst (λ (z : ℕ). (node_at d.nodes z).exact ≡ false) (sym q) x) in omega (arith, a.deeper))
     (empty_all (λ r. r₀.depth < (node_at d.nodes r).depth) d)
-cut_deeper items lastExactLayer d r₀ w wi ex sl b₀ h₀ = layer_deeper items d r₀ w (ex.last_layer relaxing_is_full) sl b₀ h₀ d.last refl
+cut_deeper items last_exact_layer d r₀ w wi ex sl b₀ h₀ = layer_deeper items d r₀ w (ex.last_layer relaxing_is_full) sl b₀ h₀ d.last refl
 
 pub drained_deeper : (items : List Item) (r r' : Record) (d : Diagram) (k : CutsetKind) → r.value ≤ top → d.start ≤ length d.nodes → Sound items (root_row r) d → Wired d → Exactness relaxing (root_row r).depth d → Memᴰ r' (drained r.path (outcome relaxing k d)) → r.depth < r'.depth
 drained_deeper items r r' d k ht sl w wi ex m =

@@ -7,7 +7,7 @@ use native.Mathlib.Omega.{arith}
 use lib.ListN.{length, get_or, drop, length-append, length-set}
 use borrow.Author.Tests.{ltb-true}
 use Rattle.knapsack.specs.Items.{Item, takes, skips}
-use Rattle.diagram.specs.After4.{CutsetKind, lastExactLayer, frontier, Cutset, list_row, list_rows, layer_cutset, frontier_edges, frontier_rows, frontier_layers, no_cutset, cutset_of, cutset_for}
+use Rattle.diagram.specs.After4.{CutsetKind, last_exact_layer, frontier, Cutset, list_row, list_rows, layer_cutset, frontier_edges, frontier_rows, frontier_layers, no_cutset, cutset_of, cutset_for}
 use Rattle.diagram.specs.After6.{Outcome, outcome, Answer, refused, finished, finish, run}
 use Rattle.diagram.specs.Node.{Node, Edge, node_at, edge_at, update, with_deleted, as_relaxed}
 use Rattle.diagram.specs.Record.{Record}
@@ -268,7 +268,7 @@ layers_long es (l ∷ ls) c = layers_long es ls _ ∙ front_long es (rows_of l) 
 
 pub of_long : (k : CutsetKind) (d : Diagram) → length (cutset_of k d).nodes ≡ length d.nodes
 unfolding cutset_of no_cutset
-of_long lastExactLayer d = layer_long d.last (no_cutset d)
+of_long last_exact_layer d = layer_long d.last (no_cutset d)
 of_long frontier d = layers_long d.edges d.layers (no_cutset d)
 
 cut_long : (m : Mode) (k : CutsetKind) (d : Diagram) → length (cutset_for m k d).nodes ≡ length d.nodes

@@ -7,7 +7,7 @@ use native.Mathlib.Omega.{arith}
 use lib.ListN.{length, length-append}
 use borrow.Author.Tests.{not-true}
 use Rattle.knapsack.proofs.Cases.{by_test}
-use Rattle.diagram.specs.After4.{CutsetKind, lastExactLayer, frontier, Cutset, list_row, list_rows, layer_cutset, frontier_edges, frontier_rows, frontier_layers, no_cutset, cutset_of, cutset_for}
+use Rattle.diagram.specs.After4.{CutsetKind, last_exact_layer, frontier, Cutset, list_row, list_rows, layer_cutset, frontier_edges, frontier_rows, frontier_layers, no_cutset, cutset_of, cutset_for}
 use Rattle.diagram.specs.After6.{Outcome, outcome, drained_record, drain_rows, drain_for, drained}
 use Rattle.diagram.specs.Node.{Node, Edge, node_at, edge_at, update, in_cutset}
 use Rattle.diagram.specs.Run.{relaxing}
@@ -84,7 +84,7 @@ start_few d = omega arith
 
 pub cut_few : (k : CutsetKind) (d : Diagram) → d.start ≤ length d.nodes → ((s : Range) → d.last ≡ squashed_after s → LastLayer d s) → length (cutset_of k d).listed ≤ length d.nodes
 unfolding cutset_of
-cut_few lastExactLayer d h q = layer_few d d.last refl h q
+cut_few last_exact_layer d h q = layer_few d d.last refl h q
 cut_few frontier d h q =
     omega (arith, layers_few d.edges d.layers (no_cutset d) (start_few d), flags_few (cutset_of frontier d).nodes, of_long frontier d)
 
