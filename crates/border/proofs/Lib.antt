@@ -1,2 +1,2 @@
--- Laws of the numbers and structs that cross the border.
-pub mod Values
+-- Laws of the structs that cross the border.
+pub mod Arrays

@@ -1,14 +1,10 @@
 -- What a host's numbers ask, and the number and values that a host reads for each case of each answer.
-use Rattle.std.specs.Prelude.{Bool, not, cond, ℕ, eqb, ℤ, pos}
-use Rattle.refusals.specs.declared.Verdict.{Verdict}
-use Rattle.refusals.specs.declared.Verdict.TheVariants.{Accepted, Refused}
+use Rattle.std.specs.Prelude.{Bool, not, cond, map, replicate, ℕ, eqb, ℤ, pos, Option, is_some, unwrap_or, Result, Ok, Err}
 use Rattle.cutset.specs.declared.Kind.{Kind}
 use Rattle.cutset.specs.declared.Kind.TheVariants.{LastExactLayer, Frontier}
 use Rattle.grow.specs.declared.Mode.{Mode}
 use Rattle.grow.specs.declared.Mode.TheVariants.{Exact, Restricted, Relaxed}
-use Rattle.finalize.specs.declared.Value.{Value}
-use Rattle.finalize.specs.declared.Value.TheVariants.{Is, Missing}
-use Rattle.compile.specs.declared.Answer.{Answer}
+use Rattle.compile.specs.declared.Compiled.{Compiled}
 use Rattle.query.specs.declared.Query.{Query}
 use Rattle.search.specs.declared.Ask.{Ask}
 use Rattle.search.specs.declared.Search.{Search}
@@ -45,49 +41,71 @@ search_in h = record { best = h.best; held = flag_in h.held; path = h.path; open
 
 -- ---- out: what is read for each case
 
--- the number that a call returns
-abbrev pub number_of : Verdict → ℕ
-number_of Accepted = 0
-number_of (Refused n) = n
+-- the number that a call returns: 0 if it was accepted, else the refusal's
+abbrev pub number_of : {A : Type 0} → Result A ℕ → ℕ
+number_of (Ok a) = 0
+number_of (Err n) = n
 
 abbrev pub flag_of : Bool → ℕ
 flag_of b = cond b 1 0
 
 -- a value or none is two fields: whether there is one, and the value, 0 where there is none
-abbrev pub has_of : Value → ℕ
-has_of (Is x) = 1
-has_of Missing = 0
+abbrev pub has_of : Option ℤ → ℕ
+has_of v = flag_of (is_some v)
 
-abbrev pub value_of : Value → ℤ
-value_of (Is x) = x
-value_of Missing = pos 0
+abbrev pub value_of : Option ℤ → ℤ
+value_of v = unwrap_or v (pos 0)
+
+-- what an accepted compile found
+abbrev pub found_in : Compiled → Found
+found_in c =
+    record {
+      exact = flag_of c.exact;
+      has_best = has_of c.best;
+      best = value_of c.best;
+      path = c.path;
+      has_best_exact = has_of c.best_exact;
+      best_exact = value_of c.best_exact;
+      exact_path = c.exact_path;
+      nodes = c.nodes;
+      edges = c.edges;
+      drained = c.drained;
+      layers = c.layers.count;
+      from = map (λ l. l.from) c.layers.rows;
+      to = map (λ l. l.to) c.layers.rows;
+    }
+
+-- 'A refusing compile gives its number alone.'
+abbrev pub nothing_found : Found
+nothing_found =
+    record {
+      exact = 0;
+      has_best = 0;
+      best = pos 0;
+      path = replicate 64 0;
+      has_best_exact = 0;
+      best_exact = pos 0;
+      exact_path = replicate 64 0;
+      nodes = 0;
+      edges = 0;
+      drained = 0;
+      layers = 0;
+      from = replicate 65 0;
+      to = replicate 65 0;
+    }
 
 -- A refused compile's answer has nothing beside its number: all is 0.
-abbrev pub found_of : Answer → Found
-found_of a =
-    record {
-      exact = flag_of a.exact;
-      has_best = has_of a.best;
-      best = value_of a.best;
-      path = a.path;
-      has_best_exact = has_of a.best_exact;
-      best_exact = value_of a.best_exact;
-      exact_path = a.exact_path;
-      nodes = a.nodes;
-      edges = a.edges;
-      drained = a.drained;
-      layers = a.layers.count;
-      from = a.layers.from;
-      to = a.layers.to;
-    }
+abbrev pub found_of : Result Compiled ℕ → Found
+found_of (Ok c) = found_in c
+found_of (Err n) = nothing_found
 
 abbrev pub host_search_of : Search → HostSearch
 host_search_of s = record { best = s.best; held = flag_of s.held; path = s.path; opened = s.opened; picks = s.picks }
 
--- the lent search after a start or a pick, with the search that it answers: a refused call leaves it as it was
-abbrev pub host_search_after : Verdict → Search → HostSearch → HostSearch
-host_search_after Accepted s old = host_search_of s
-host_search_after (Refused n) s old = old
+-- the lent search after a start or a pick: the one that it answers; a refused call leaves it as it was
+abbrev pub host_search_after : Result Search ℕ → HostSearch → HostSearch
+host_search_after (Ok s) old = host_search_of s
+host_search_after (Err n) old = old
 
 -- the number that a job's run returns: 0 for a run that came to its end
 abbrev pub ending_number : Ending → ℕ

@@ -2,16 +2,14 @@
 #![tactic(auto)]
 
 ghost use Rattle.std.specs.Prelude.{◌≡◌};
-ghost use Rattle.border.specs.Border.{number_of, kind_in, mode_in, flag_of, flag_in, has_of, value_of, ask_in, query_in, search_in, host_search_of, host_search_after, found_of, shown_of};
+ghost use Rattle.border.specs.Border.{kind_in, mode_in, ask_in, query_in, search_in, host_search_of, found_in, nothing_found, shown_of};
 
-use compile::Answer;
+use compile::Compiled;
 use cutset::Kind;
-use finalize::Value;
 use grow::Mode;
 use page_text::Output;
 use query::Query;
 use records::Record;
-use refusals::Verdict;
 use search::{Ask, Search};
 
 // How a search is asked: the page, the width, and the cutset's number, 0 for the last exact layer and any other for the frontier.
@@ -35,7 +33,7 @@ pub struct Question {
     pub root: Record,
 }
 
-// What a compile found. A flag is 1 or 0; a value whose flag is 0 is 0, and so is its path. Refused, all is 0.
+// What a compile found. A flag is 1 or 0; a value whose flag is 0 is 0, and so is its path. Refused, all is 0. C interface: flags are plain numbers beside their values.
 #[repr(C)]
 #[derive(Clone, Copy)]
 pub struct Found {
@@ -54,7 +52,7 @@ pub struct Found {
     pub to: [usize; 65],
 }
 
-// A search as a host lends it: a path is held unless `held` is 0.
+// A search as a host lends it: a path is held unless `held` is 0. C interface: a plain number, not an option.
 #[repr(C)]
 #[derive(Clone, Copy)]
 pub struct HostSearch {
@@ -74,209 +72,161 @@ pub struct Page {
     pub end: u8,
 }
 
-// A verdict's number: 0 for accepted, else the refusal's.
-fn number_of(v: Verdict) -> u64
-    ensures { result ≡ number_of v }
-{
-    match v {
-        Verdict::Accepted => 0,
-        Verdict::Refused(n) => n,
-    }
-}
-
+// The cutset of a host's number. No `From`: neither `u64` nor `Kind` is this crate's.
 fn kind_in(cut: u64) -> Kind
     ensures { result ≡ kind_in cut }
 {
-    if cut == 0 {
-        Kind::LastExactLayer
-    } else {
-        Kind::Frontier
+    match cut {
+        0 => Kind::LastExactLayer,
+        _ => Kind::Frontier,
     }
 }
 
+// The mode of a host's number. No `From`: neither `u64` nor `Mode` is this crate's.
 fn mode_in(mode: u64) -> Mode
     ensures { result ≡ mode_in mode }
 {
-    if mode == 0 {
-        return Mode::Exact;
-    }
-    if mode == 1 {
-        Mode::Restricted
-    } else {
-        Mode::Relaxed
-    }
-}
-
-fn flag_of(b: bool) -> u64
-    ensures { result ≡ flag_of b }
-{
-    if b { 1 } else { 0 }
-}
-
-fn flag_in(n: u64) -> bool
-    ensures { result ≡ flag_in n }
-{
-    n != 0
-}
-
-fn has_of(v: Value) -> u64
-    ensures { result ≡ has_of v }
-{
-    match v {
-        Value::Is(_) => 1,
-        Value::Missing => 0,
-    }
-}
-
-fn value_of(v: Value) -> i64
-    ensures { result ≡ value_of v }
-{
-    match v {
-        Value::Is(value) => value,
-        Value::Missing => 0,
+    match mode {
+        0 => Mode::Exact,
+        1 => Mode::Restricted,
+        _ => Mode::Relaxed,
     }
 }
 
 // What a search is asked, from a host's numbers.
-pub fn ask_in(t: Terms) -> Ask
-    ensures { result ≡ ask_in t }
-{
-    let kind = kind_in(t.cut);
-    Ask {
-        page: t.page,
-        width: t.width,
-        kind: kind,
+impl From<Terms> for Ask {
+    ghost from_gives = { λ t a. a ≡ ask_in t };
+
+    fn from(t: Terms) -> Ask {
+        Ask {
+            page: t.page,
+            width: t.width,
+            kind: kind_in(t.cut),
+        }
     }
 }
 
 // What a compile is asked, from a host's numbers.
-pub fn query_in(q: Question) -> Query
-    ensures { result ≡ query_in q }
-{
-    let mode = mode_in(q.mode);
-    let kind = kind_in(q.cut);
-    let root = q.root;
-    Query {
-        page: q.page,
-        width: q.width,
-        mode: mode,
-        kind: kind,
-        lower: q.lower,
-        root: root,
+impl From<Question> for Query {
+    ghost from_gives = { λ q a. a ≡ query_in q };
+
+    fn from(q: Question) -> Query {
+        Query {
+            page: q.page,
+            width: q.width,
+            mode: mode_in(q.mode),
+            kind: kind_in(q.cut),
+            lower: q.lower,
+            root: q.root,
+        }
     }
 }
 
-// What a compile answers, as a host reads it.
-pub fn found_of(a: Answer) -> Found
-    ensures { result ≡ found_of a }
-{
-    let best = a.best;
-    let path = a.path;
-    let best_exact = a.best_exact;
-    let exact_path = a.exact_path;
-    let layers = a.layers;
-    let from = layers.from;
-    let to = layers.to;
-    Found {
-        exact: flag_of(a.exact),
-        has_best: has_of(best),
-        best: value_of(best),
-        path: path,
-        has_best_exact: has_of(best_exact),
-        best_exact: value_of(best_exact),
-        exact_path: exact_path,
-        nodes: a.nodes,
-        edges: a.edges,
-        drained: a.drained,
-        layers: layers.count,
-        from: from,
-        to: to,
+// What an accepted compile found, as a host reads it.
+impl From<Compiled> for Found {
+    ghost from_gives = { λ c f. f ≡ found_in c };
+
+    fn from(c: Compiled) -> Found {
+        let rows = c.layers.rows;
+        let from = rows.map(|layer| layer.from);
+        let to = rows.map(|layer| layer.to);
+        let path = c.path;
+        let exact_path = c.exact_path;
+        Found {
+            exact: u64::from(c.exact),
+            has_best: u64::from(c.best.is_some()),
+            best: c.best.unwrap_or(0),
+            path,
+            has_best_exact: u64::from(c.best_exact.is_some()),
+            best_exact: c.best_exact.unwrap_or(0),
+            exact_path,
+            nodes: c.nodes,
+            edges: c.edges,
+            drained: c.drained,
+            layers: c.layers.count,
+            from,
+            to,
+        }
+    }
+}
+
+impl Found {
+    // What a refused compile leaves: all is 0.
+    pub fn nothing() -> Found
+        ensures { result ≡ nothing_found }
+    {
+        Found {
+            exact: 0,
+            has_best: 0,
+            best: 0,
+            path: [0; 64],
+            has_best_exact: 0,
+            best_exact: 0,
+            exact_path: [0; 64],
+            nodes: 0,
+            edges: 0,
+            drained: 0,
+            layers: 0,
+            from: [0; 65],
+            to: [0; 65],
+        }
     }
 }
 
 // A host's search as the calls hold it.
-pub fn search_in(h: HostSearch) -> Search
-    ensures { result ≡ search_in h }
-{
-    let path = h.path;
-    Search {
-        best: h.best,
-        held: flag_in(h.held),
-        path: path,
-        opened: h.opened,
-        picks: h.picks,
+impl From<HostSearch> for Search {
+    ghost from_gives = { λ h s. s ≡ search_in h };
+
+    fn from(h: HostSearch) -> Search {
+        let HostSearch {
+            best,
+            held,
+            path,
+            opened,
+            picks,
+        } = h;
+        Search {
+            best,
+            held: held != 0,
+            path,
+            opened,
+            picks,
+        }
     }
 }
 
 // A search as a host holds it.
-fn host_search_of(s: Search) -> HostSearch
-    ensures { result ≡ host_search_of s }
-{
-    let path = s.path;
-    HostSearch {
-        best: s.best,
-        held: flag_of(s.held),
-        path: path,
-        opened: s.opened,
-        picks: s.picks,
+impl From<Search> for HostSearch {
+    ghost from_gives = { λ s h. h ≡ host_search_of s };
+
+    fn from(s: Search) -> HostSearch {
+        let Search {
+            best,
+            held,
+            path,
+            opened,
+            picks,
+        } = s;
+        HostSearch {
+            best,
+            held: u64::from(held),
+            path,
+            opened,
+            picks,
+        }
     }
-}
-
-// A host's search after a call that was accepted, with that search, or refused, which leaves it as it was.
-fn host_search_after(v: Verdict, s: Search, old: HostSearch) -> HostSearch
-    ensures { result ≡ host_search_after v s old }
-{
-    match v {
-        Verdict::Accepted => host_search_of(s),
-        Verdict::Refused(_) => old,
-    }
-}
-
-pub fn answer_number(a: Answer) -> u64
-    ensures { result ≡ number_of a.verdict }
-{
-    let verdict = a.verdict;
-    number_of(verdict)
-}
-
-pub fn start_number(a: search::Started) -> u64
-    ensures { result ≡ number_of a.verdict }
-{
-    let verdict = a.verdict;
-    number_of(verdict)
-}
-
-pub fn after_start(a: search::Started, old: HostSearch) -> HostSearch
-    ensures { result ≡ host_search_after a.verdict a.search old }
-{
-    let verdict = a.verdict;
-    let search = a.search;
-    host_search_after(verdict, search, old)
-}
-
-pub fn pick_number(p: search::Picked) -> u64
-    ensures { result ≡ number_of p.verdict }
-{
-    let verdict = p.verdict;
-    number_of(verdict)
-}
-
-pub fn after_pick(p: search::Picked, old: HostSearch) -> HostSearch
-    ensures { result ≡ host_search_after p.verdict p.search old }
-{
-    let verdict = p.verdict;
-    let search = p.search;
-    host_search_after(verdict, search, old)
 }
 
 // A job's answer, as a host reads it.
-pub fn shown_of(o: Output) -> Page
-    ensures { result ≡ shown_of o }
-{
-    let bytes = o.bytes;
-    Page {
-        count: o.count,
-        bytes: bytes,
-        end: 0,
+impl From<Output> for Page {
+    ghost from_gives = { λ o p. p ≡ shown_of o };
+
+    fn from(o: Output) -> Page {
+        let Output { bytes, count } = o;
+        Page {
+            count,
+            bytes,
+            end: 0,
+        }
     }
 }

@@ -7,55 +7,46 @@ use native.Mathlib.Omega.{arith}
 use lib.ListN.{length, take, drop, length-drop, length-set, length-append, take-append-drop}
 use lib.Dec.{eqb}
 use lib.Seq.{take_all, drop-drop, drop-length, take-set-le, take-append-le}
-use Rattle.words.specs.I64.{mid, sat_add}
-use Rattle.diagram.specs.Node.{Node, node_at}
+use Rattle.std.specs.Prelude.{Option, Some, None}
+use Rattle.diagram.specs.Node.{Node}
 use Rattle.diagram.specs.Tables.{Diagram, with_nodes}
 use Rattle.diagram.specs.Tables as Def
 use Rattle.diagram.specs.Run.{Settings, Run, need}
-use Rattle.diagram.specs.Rule4.{handed, lookup, push_edge, push_node, child_of, branch_to, branch_on, add_edge, new_child}
+use Rattle.diagram.specs.Rule4.{lookup, push_edge, push_node, child_of, branch_to, branch_on, add_edge, new_child}
 use Rattle.layout.specs.Table.{words_of, over}
 use Rattle.layout.specs.Rows.{node_words, encode_node, node_table}
 use Rattle.layout.proofs.Table.{part_from, part_back}
 use Rattle.layout.proofs.Rows.{node_width}
-use Rattle.rows.specs.Access.{NodeRead}
-use Rattle.rows.specs.declared.NodeId.{NodeId}
 use Rattle.branch.specs.declared.Counts.{Counts}
 use Rattle.branch.specs.declared.Rooms.{Rooms}
-use Rattle.branch.specs.declared.Step.{Step}
-use Rattle.branch.specs.declared.Found.{Found}
-use Rattle.branch.specs.declared.Found.TheVariants.{At, Nothing}
 use Rattle.branch.specs.declared.Parent.{Parent}
 use Rattle.branch.specs.declared.Branch.{Branch}
-use Rattle.branch.specs.State.{found_of, Below, LookedUp, diagram_of, ComingHeld, Told, Stands, ComingStepped, EdgeAdded, ChildMade, ChildAdded, Held, Stepped, Branched, Appended}
+use Rattle.branch.specs.State.{Said, found_of, LookedUp, ParentRead, diagram_of, ComingHeld, Told, Stands, ComingStepped, EdgeAdded, ChildMade, ChildAdded, Held, Stepped, Branched, Appended}
 
 -- the lookup, said of the diagram
-looked : (first : ℕ) (k : Counts) (rooms : Rooms) (capacity : ℕ) (cs es : List ℕ) (f : Found) → LookedUp cs (k.nodes - first) capacity f → (s : Settings) (d : Diagram) (old_n old_e : List ℕ) → Stands s d old_n old_e first k rooms → ComingHeld d old_n old_e cs es → lookup capacity (drop d.start d.nodes) d.start ≡ found_of first f
+looked : (first : ℕ) (k : Counts) (rooms : Rooms) (capacity : ℕ) (cs es : List ℕ) (f : Option ℕ) → LookedUp cs (k.nodes - first) capacity f → (s : Settings) (d : Diagram) (old_n old_e : List ℕ) → Stands s d old_n old_e first k rooms → ComingHeld d old_n old_e cs es → lookup capacity (drop d.start d.nodes) d.start ≡ found_of first f
 looked first k rooms capacity cs es f l s d old_n old_e st held =
     let n : k.nodes ≡ length d.nodes = ap (λ (c : Counts). c.nodes) st.counts_are in
     let e : k.nodes - first ≡ length (drop d.start d.nodes) = simp length-drop (omega (arith, st.first_is)) in
     sym (l.is_first (drop d.start d.nodes) (drop (d.start * node_words) old_n) d.start held.coming_are e) ∙ ap (λ (i : ℕ). found_of i f) (sym st.first_is)
 
-pub add_absent : (first : ℕ) (k : Counts) (rooms : Rooms) (p : Parent) (b : Branch) (cs es : List ℕ) (f : Found) (r : Step) (cs' es' : List ℕ) → LookedUp cs (k.nodes - first) b.capacity f → f ≡ Nothing → ChildMade first k rooms p b cs es r cs' es' → ChildAdded first k rooms p b cs es r cs' es'
+pub add_absent : (first : ℕ) (k : Counts) (rooms : Rooms) (p : Parent) (b : Branch) (cs es : List ℕ) (r : Said) (cs' es' : List ℕ) → LookedUp cs (k.nodes - first) b.capacity None → ChildMade first k rooms p b cs es r cs' es' → ChildAdded first k rooms p b cs es r cs' es'
 unfolding branch_on branch_to
-add_absent first k rooms p b cs es f r cs' es' l e made =
+add_absent first k rooms p b cs es r cs' es' l made =
     record {
       fits = made.fits;
       does = λ s d old_n old_e st held told deep.
-          rw (looked first k rooms b.capacity cs es f l s d old_n old_e st held ∙ ap (found_of first) e) (made.does s d old_n old_e st held told deep);
+          rw (looked first k rooms b.capacity cs es None l s d old_n old_e st held) (made.does s d old_n old_e st held told deep);
     }
 
-pub add_present : (first : ℕ) (k : Counts) (rooms : Rooms) (p : Parent) (b : Branch) (cs es : List ℕ) (f : Found) (row : ℕ) (r : Step) (cs' es' : List ℕ) → LookedUp cs (k.nodes - first) b.capacity f → f ≡ At row → first + row < k.nodes → EdgeAdded first k rooms p row b cs es r cs' es' → ChildAdded first k rooms p b cs es r cs' es'
+pub add_present : (first : ℕ) (k : Counts) (rooms : Rooms) (p : Parent) (b : Branch) (cs es : List ℕ) (row : ℕ) (r : Said) (cs' es' : List ℕ) → LookedUp cs (k.nodes - first) b.capacity (Some row) → first ≤ k.nodes → EdgeAdded first k rooms p row b cs es r cs' es' → ChildAdded first k rooms p b cs es r cs' es'
 unfolding branch_on branch_to
-add_present first k rooms p b cs es f row r cs' es' l e h added =
+add_present first k rooms p b cs es row r cs' es' l low added =
     record {
       fits = added.fits;
       does = λ s d old_n old_e st held told deep.
-          rw (looked first k rooms b.capacity cs es f l s d old_n old_e st held ∙ ap (found_of first) e) (added.does s d old_n old_e st held told (omega (arith, ap (λ (c : Counts). c.nodes) st.counts_are)));
+          rw (looked first k rooms b.capacity cs es (Some row) l s d old_n old_e st held) (added.does s d old_n old_e st held told (omega (arith, l.below, ap (λ (c : Counts). c.nodes) st.counts_are)));
     }
-
--- a row that was found is one of the coming layer's
-pub found_below : (t : List ℕ) (count capacity : ℕ) (f : Found) (row : ℕ) → LookedUp t count capacity f → f ≡ At row → row < count
-found_below t count capacity f row l e = subst (λ (g : Found). Below count g) e l.below
 
 -- What branching leaves alone: the rows before the coming layer, and where that starts.
 pub record Kept (d e : Diagram) : Type 0 where
@@ -129,46 +120,48 @@ back_held d e old_n old_e ns cs es h held kept cs' es' held' =
     }
 
 -- what a child is told of a parent whose row was read
-told_of : (start : ℕ) (from : NodeId) (cost : ℕ) (ns : List ℕ) (parent : Node) (v : ℕ) → from.0 < start → NodeRead ns from.0 parent → v ≡ sat_add parent.value (mid + cost) → (s : Settings) (d : Diagram) (old_n old_e es : List ℕ) (k : Counts) (rooms : Rooms) → Stands s d old_n old_e start k rooms → Held d old_n old_e ns es → Told d cost (record { id = from; value = v; exact = parent.exact })
-unfolding handed
-told_of start from cost ns parent v h read e s d old_n old_e es k rooms st held =
-    let q : parent ≡ node_at d.nodes from.0 = read.is_row d.nodes old_n held.nodes_are (omega (arith, st.first_is, st.start_in)) in
+told_of : (start from cost : ℕ) (ns : List ℕ) (p : Parent) → from < start → ParentRead ns from cost p → (s : Settings) (d : Diagram) (old_n old_e es : List ℕ) (k : Counts) (rooms : Rooms) → Stands s d old_n old_e start k rooms → Held d old_n old_e ns es → Told d cost p
+told_of start from cost ns p h read s d old_n old_e es k rooms st held =
+    let i : from < length d.nodes = omega (arith, st.first_is, st.start_in) in
     record {
-      row_in = omega (arith, st.first_is);
-      exact_is = ap (λ (n : Node). n.exact) q;
-      value_is = e ∙ ap (λ (n : Node). sat_add n.value (mid + cost)) q;
+      row_in = omega (arith, st.first_is, read.id_is);
+      exact_is = rw read.id_is (read.exact_is d.nodes old_n held.nodes_are i);
+      value_is = rw read.id_is (read.value_is d.nodes old_n held.nodes_are i);
     }
 
 -- a step on the part that was lent is one on the whole table
-whole_step : (run : Run) (start : ℕ) (k : Counts) (rooms : Rooms) (ns es : List ℕ) (r : Step) (cs' ns' es' : List ℕ) → start * node_words ≤ length ns → ns' ≡ take (start * node_words) ns ++ (cs' ++ drop (length ns - start * node_words) (drop (start * node_words) ns)) → (s : Settings) (d : Diagram) (old_n old_e : List ℕ) → Stands s d old_n old_e start k rooms → Held d old_n old_e ns es → Kept d (diagram_of run) → (ComingHeld d old_n old_e (take (length ns - start * node_words) (drop (start * node_words) ns)) es → ComingStepped run old_n old_e r cs' es') → Stepped run old_n old_e r ns' es'
+whole_step : (run : Run) (start : ℕ) (k : Counts) (rooms : Rooms) (ns es : List ℕ) (r : Said) (cs' ns' es' : List ℕ) → start * node_words ≤ length ns → ns' ≡ take (start * node_words) ns ++ (cs' ++ drop (length ns - start * node_words) (drop (start * node_words) ns)) → (s : Settings) (d : Diagram) (old_n old_e : List ℕ) → Stands s d old_n old_e start k rooms → Held d old_n old_e ns es → Kept d (diagram_of run) → (ComingHeld d old_n old_e (take (length ns - start * node_words) (drop (start * node_words) ns)) es → ComingStepped run old_n old_e r cs' es') → Stepped run old_n old_e r ns' es'
 whole_step run start k rooms ns es r cs' ns' es' l back s d old_n old_e st held kept does =
     let z : d.start * node_words ≤ length ns = omega (arith, st.first_is) in
     let did = does (subst (λ (a : ℕ). ComingHeld d old_n old_e (take (length ns - a * node_words) (drop (a * node_words) ns)) es) (sym st.first_is) (coming_held d old_n old_e ns es st.start_in z held)) in
     let e : ns' ≡ take (d.start * node_words) ns ++ cs' = back ∙ rw (rest_nil ns (start * node_words) l, append-nil cs', st.first_is) in
     record { step_is = did.step_is; held = rw e (back_held d (diagram_of run) old_n old_e ns cs' es st.start_in held kept cs' es' did.held) }
 
-pub branched : (start : ℕ) (k : Counts) (rooms : Rooms) (from : NodeId) (b : Branch) (ns es : List ℕ) (parent : Node) (v : ℕ) (r : Step) (cs' ns' es' : List ℕ) → from.0 < start → start * node_words ≤ length ns → NodeRead ns from.0 parent → v ≡ sat_add parent.value (mid + b.cost)
-    → ChildAdded start k rooms (record { id = from; value = v; exact = parent.exact }) b (take (length ns - start * node_words) (drop (start * node_words) ns)) es r cs' es'
+pub branched : (start : ℕ) (k : Counts) (rooms : Rooms) (from : ℕ) (b : Branch) (ns es : List ℕ) (p : Parent) (r : Said) (cs' ns' es' : List ℕ) → from < start → start * node_words ≤ length ns → ParentRead ns from b.cost p
+    → ChildAdded start k rooms p b (take (length ns - start * node_words) (drop (start * node_words) ns)) es r cs' es'
     → ns' ≡ take (start * node_words) ns ++ (cs' ++ drop (length ns - start * node_words) (drop (start * node_words) ns))
-    → Branched start k rooms from.0 b ns es r ns' es'
-branched start k rooms from b ns es parent v r cs' ns' es' h l read ve added back =
+    → Branched start k rooms from b ns es r ns' es'
+branched start k rooms from b ns es p r cs' ns' es' h l read added back =
     record {
       fits = added.fits;
       does = λ s d old_n old_e st held deep.
-          whole_step (branch_on s from.0 b.decision b.cost b.capacity d) start k rooms ns es r cs' ns' es' l back s d old_n old_e st held
-          (branch_kept s from.0 b.decision b.cost b.capacity d st.start_in)
-          (λ part. added.does s d old_n old_e st part (told_of start from b.cost ns parent v h read ve s d old_n old_e es k rooms st held) deep);
+          rw (← read.id_is) (whole_step (branch_on s p.id.0 b.decision b.cost b.capacity d) start k rooms ns es r cs' ns' es' l back s d old_n old_e st held
+          (branch_kept s p.id.0 b.decision b.cost b.capacity d st.start_in)
+          (λ part. added.does s d old_n old_e st part (told_of start from b.cost ns p h read s d old_n old_e es k rooms st held) (rw read.id_is deep)));
     }
 
-pub appended : (start : ℕ) (k : Counts) (rooms : Rooms) (from : NodeId) (row : ℕ) (b : Branch) (ns es : List ℕ) (parent : Node) (v : ℕ) (r : Step) (cs' ns' es' : List ℕ) → from.0 < start → start + row < k.nodes → start * node_words ≤ length ns → NodeRead ns from.0 parent → v ≡ sat_add parent.value (mid + b.cost)
-    → EdgeAdded start k rooms (record { id = from; value = v; exact = parent.exact }) row b (take (length ns - start * node_words) (drop (start * node_words) ns)) es r cs' es'
+pub appended : (start : ℕ) (k : Counts) (rooms : Rooms) (from row : ℕ) (b : Branch) (ns es : List ℕ) (p : Parent) (r : Said) (cs' ns' es' : List ℕ) → from < start → start + row < k.nodes → start * node_words ≤ length ns → ParentRead ns from b.cost p
+    → EdgeAdded start k rooms p row b (take (length ns - start * node_words) (drop (start * node_words) ns)) es r cs' es'
     → ns' ≡ take (start * node_words) ns ++ (cs' ++ drop (length ns - start * node_words) (drop (start * node_words) ns))
-    → Appended start k rooms from.0 row b ns es r ns' es'
-appended start k rooms from row b ns es parent v r cs' ns' es' h i l read ve added back =
+    → Appended start k rooms from row b ns es r ns' es'
+appended start k rooms from row b ns es p r cs' ns' es' h i l read added back =
     record {
       fits = added.fits;
       does = λ s d old_n old_e st held.
-          whole_step (add_edge s from.0 (start + row) b.decision b.cost d) start k rooms ns es r cs' ns' es' l back s d old_n old_e st held
-          (kept_edge s from.0 (start + row) b.decision b.cost d (omega (arith, st.first_is)))
-          (λ part. added.does s d old_n old_e st part (told_of start from b.cost ns parent v h read ve s d old_n old_e es k rooms st held) (omega (arith, ap (λ (c : Counts). c.nodes) st.counts_are)));
+          rw (← read.id_is) (whole_step (add_edge s p.id.0 (start + row) b.decision b.cost d) start k rooms ns es r cs' ns' es' l back s d old_n old_e st held
+          (kept_edge s p.id.0 (start + row) b.decision b.cost d (omega (arith, st.first_is)))
+          (λ part. added.does s d old_n old_e st part (told_of start from b.cost ns p h read s d old_n old_e es k rooms st held) (omega (arith, ap (λ (c : Counts). c.nodes) st.counts_are))));
     }
+
+-- what `add_child`, `branch_on` and `append_edge` stand on
+pub ruleset branches = (add_absent, add_present, branched, appended)

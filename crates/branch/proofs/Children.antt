@@ -16,10 +16,9 @@ use Rattle.layout.specs.Rows.{node_words, edge_words}
 use Rattle.rows.specs.Access.{EdgeWritten, NodeWritten}
 use Rattle.branch.specs.declared.Counts.{Counts}
 use Rattle.branch.specs.declared.Rooms.{Rooms}
-use Rattle.branch.specs.declared.Step.TheVariants.{Going, Stopped}
 use Rattle.branch.specs.declared.Parent.{Parent}
 use Rattle.branch.specs.declared.Branch.{Branch}
-use Rattle.branch.specs.State.{counts_of, ComingHeld, ChildMade}
+use Rattle.branch.specs.State.{Going, Stopped, counts_of, ComingHeld, ChildMade}
 
 pub counted_nodes : (d : Diagram) (k : Counts) → k ≡ counts_of d → k.nodes ≡ length d.nodes
 counted_nodes d k e = ap (λ (c : Counts). c.nodes) e
@@ -125,3 +124,6 @@ child_made first k rooms p b cs es x cs' es' h i j e we wn =
             held = made_held d old_n old_e cs es p.id.0 b.decision b.cost ch x cs' es' held st.start_in inp (child_newest p.id.0 b.cost b.capacity d.nodes) (omega (arith, st.old_nodes)) (omega (arith, st.old_edges)) l v w;
           });
     }
+
+-- what `new_child` stands on
+pub ruleset children = (refused_10, refused_11, refused_12, child_made)

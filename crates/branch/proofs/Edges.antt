@@ -17,10 +17,9 @@ use Rattle.layout.specs.Rows.{node_words, edge_words}
 use Rattle.rows.specs.Access.{NodeRead, EdgeWritten, NodeWritten}
 use Rattle.branch.specs.declared.Counts.{Counts}
 use Rattle.branch.specs.declared.Rooms.{Rooms}
-use Rattle.branch.specs.declared.Step.TheVariants.{Going, Stopped}
 use Rattle.branch.specs.declared.Parent.{Parent}
 use Rattle.branch.specs.declared.Branch.{Branch}
-use Rattle.branch.specs.State.{counts_of, ComingHeld, Told, ComingStepped, EdgeAdded}
+use Rattle.branch.specs.State.{Going, Stopped, counts_of, ComingHeld, Told, ComingStepped, EdgeAdded}
 
 -- no room
 pub edge_refused : (first : ℕ) (k : Counts) (rooms : Rooms) (p : Parent) (row : ℕ) (b : Branch) (cs es : List ℕ) → rooms.edges ≤ k.edges → EdgeAdded first k rooms p row b cs es (Stopped 12 k) cs es
@@ -86,3 +85,6 @@ edge_added first k rooms p row b cs es child x cs' es' h read e we wn =
           (added_at k p row b cs es child x cs' es' s d old_n old_e st.counts_are (omega (arith, st.edge_room)) (rw st.edge_room st.old_edges) held told (omega (arith, st.first_is)) read e
           (subst (λ (f : ℕ). EdgeWritten es k.edges (record { from = p.id.0; to = f + row; decision = b.decision; cost = b.cost; next = child.newest }) es') st.first_is we) wn);
     }
+
+-- what `add_edge` stands on
+pub ruleset edges = (edge_refused, edge_added)

@@ -1,4 +1,5 @@
 -- Laws of branching.
+pub mod Same
 pub mod Scan
 pub mod Edges
 pub mod Children

@@ -12,16 +12,12 @@ use Rattle.diagram.specs.Rule4.{lookup}
 use Rattle.layout.specs.Table.{over}
 use Rattle.layout.specs.Rows.{node_table}
 use Rattle.rows.specs.Access.{FieldRead}
-use Rattle.branch.specs.declared.Found.TheVariants.{At, Nothing}
+use Rattle.std.specs.Prelude.{Some, None}
 use Rattle.branch.specs.State.{LookedUp}
 
 -- the rows before i don't have that capacity: what is left decides
 pub record Passed (t : List ℕ) (count capacity i : ℕ) : Type 0 where
   pub left : (ns : List Node) (old : List ℕ) (first : ℕ) → t ≡ over (node_table ns) old → count ≡ length ns → lookup capacity (drop i ns) (first + i) ≡ lookup capacity ns first
-
-pub passed_none : (t : List ℕ) (count capacity : ℕ) → Passed t count capacity 0
-passed_none t count capacity =
-    record { left = λ ns old first e l. let z : first + 0 ≡ first = omega arith in ap (λ (r : ℕ). lookup capacity ns r) z }
 
 -- one row's turn
 turn : (capacity : ℕ) (ns : List Node) (i r : ℕ) → i < length ns → lookup capacity (drop i ns) r ≡ lookup capacity (node_at ns i ∷ drop (suc i) ns) r
@@ -46,7 +42,7 @@ passed_one t count capacity i c h read other p =
           rw (z, y) (sym (turn capacity ns i (first + i) k ∙ lookup_miss capacity (node_at ns i) (drop (suc i) ns) (first + i) (λ w. other (q ∙ w))) ∙ p.left ns old first e l);
     }
 
-pub found_none : (t : List ℕ) (count capacity i : ℕ) → count ≤ i → Passed t count capacity i → LookedUp t count capacity Nothing
+pub found_none : (t : List ℕ) (count capacity i : ℕ) → count ≤ i → Passed t count capacity i → LookedUp t count capacity None
 unfolding lookup
 found_none t count capacity i h p =
     record {
@@ -56,7 +52,7 @@ found_none t count capacity i h p =
       below = tt;
     }
 
-pub found_at : (t : List ℕ) (count capacity i c : ℕ) → i < count → FieldRead t i (λ x. x.capacity) c → c ≡ capacity → Passed t count capacity i → LookedUp t count capacity (At i)
+pub found_at : (t : List ℕ) (count capacity i c : ℕ) → i < count → FieldRead t i (λ x. x.capacity) c → c ≡ capacity → Passed t count capacity i → LookedUp t count capacity (Some i)
 found_at t count capacity i c h read same p =
     record {
       is_first = λ ns old first e l.
@@ -65,3 +61,6 @@ found_at t count capacity i c h read same p =
           sym (turn capacity ns i (first + i) k ∙ lookup_hit capacity (node_at ns i) (drop (suc i) ns) (first + i) (sym q ∙ same)) ∙ p.left ns old first e l;
       below = h;
     }
+
+-- what the scan of `lookup` stands on
+pub ruleset scan = (passed_one, found_none, found_at)

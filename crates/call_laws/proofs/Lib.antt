@@ -4,3 +4,4 @@ pub mod Accepted
 pub mod Refusals
 pub mod Sizes
 pub mod Tables
+pub mod Layers

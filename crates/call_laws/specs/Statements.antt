@@ -129,6 +129,10 @@ abbrev pub CompiledHolds : Type 0
 CompiledHolds =
     (q : Request) (l : Lent) (c : Compiled) → (compile q l).answer ≡ compiled c → (o : Outcome) × (run_of q (rooms_of l) ≡ finished o) × (c ≡ compiled_of q.given.path o) × HoldsRows q l o.diagram × ((compile q l).lent.records ≡ over (record_table (drained q.given.path o)) l.records)
 
+-- An accepted compile, of at most 64 items, answers at most 65 layers: as many as a host's array holds.
+abbrev pub LayersFit : Type 0
+LayersFit = (q : Request) (l : Lent) (c : Compiled) → (compile q l).answer ≡ compiled c → length c.layers ≤ 65
+
 -- ---- rows: 'each parent has a smaller row'. That before its squash a layer never has two rows of one capacity is `capacities_differ` of
 -- theorems/proofs/Layers.antt; that following next numbers gives the inbound edges is `next_walk` of theorems/proofs/Links.antt.
 

@@ -7,7 +7,7 @@ use Rattle.layout.specs.Rows.{node_words, edge_words}
 use Rattle.layout.specs.Records.{record_words}
 use Rattle.calls.specs.Compile as Def
 use Rattle.calls.specs.Compile.{compile}
-use Rattle.compile.specs.declared.Answer.{Answer}
+use Rattle.compile.specs.declared.Compiled.{Compiled}
 use Rattle.compile.specs.Answered.{answer_from}
 use Rattle.demand2.specs.Records.{SameWords}
 use Rattle.demand2.proofs.Frames.{old_contents_change_nothing, beyond_the_run_stays}
@@ -35,11 +35,11 @@ dropped : (n m width : ℕ) (t u before : List ℕ) → n ≡ m → t ≡ u → 
 dropped n m width t u before e f h = rw (e, f) h
 
 pub beyond_the_run : BeyondTheRunStays
-beyond_the_run c ok =
-    let r = read c ok in
+beyond_the_run c a ok =
+    let r = read c a ok in
     let s = beyond_the_run_stays (asked c) c.before r.compiled_as r.is_compiled_lem in
     record {
-      nodes = dropped _ _ node_words _ _ _ (ap (λ (a : Answer). a.nodes) r.answer_is) c.promised.nodes_are s.nodes;
-      edges = dropped _ _ edge_words _ _ _ (ap (λ (a : Answer). a.edges) r.answer_is) c.promised.edges_are s.edges;
-      records = dropped _ _ record_words _ _ _ (ap (λ (a : Answer). a.drained) r.answer_is) c.promised.records_are s.records;
+      nodes = dropped _ _ node_words _ _ _ (ap (λ (x : Compiled). x.nodes) r.answer_is) c.promised.nodes_are s.nodes;
+      edges = dropped _ _ edge_words _ _ _ (ap (λ (x : Compiled). x.edges) r.answer_is) c.promised.edges_are s.edges;
+      records = dropped _ _ record_words _ _ _ (ap (λ (x : Compiled). x.drained) r.answer_is) c.promised.records_are s.records;
     }

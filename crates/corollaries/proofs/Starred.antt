@@ -2,35 +2,32 @@
 use mathlib.Core.Path.{◌≡◌, refl, ap, sym, ◌∙◌}
 use mathlib.Core.List.{List, [], ◌∷◌, Memᴰ, map}
 use Prim.Native.Nat.{ℕ}
-use native.Mathlib.Omega.{arith}
 use Rattle.layout.specs.Table.{over}
 use Rattle.layout.specs.Records.{record_table}
 use Rattle.calls.specs.Compile as Def
 use Rattle.calls.specs.Compile.{Effect, Compiled, refused, compiled, rooms_of, compile_effect, after, compile}
 use Rattle.calls.proofs.Computing.{computing}
 use Rattle.call_laws.proofs.Tables.{more_room_effect}
-use Rattle.refusals.specs.declared.Verdict.{Verdict}
-use Rattle.refusals.specs.declared.Verdict.TheVariants.{Accepted, Refused}
-use Rattle.compile.specs.declared.Answer.{Answer}
+use Rattle.std.specs.Prelude.{Result, Ok, Err}
+use Rattle.compile.specs.declared.Compiled as Code
 use Rattle.compile.specs.Asked.{request_of}
 use Rattle.compile.specs.Answered.{answer_from}
 use Rattle.corollaries.specs.Called.{asked}
 use Rattle.corollaries.specs.Starred.{Case, cases, Starred}
 
--- what is seen of a case: its verdict, its answer and its records' words
+-- what is seen of a case: its answer and its records' words
 record Seen : Type 0 where
-  verdict : Verdict
-  answer : Answer
+  answer : Result Code.Compiled ℕ
   records : List ℕ
 
 case_effect : Case → Effect
 case_effect k = compile_effect (request_of k.weights k.profits k.request []) k.rooms
 
 seen_of : Case → Seen
-seen_of k = let a = answer_from (case_effect k).answer in record { verdict = a.verdict; answer = a; records = record_table (case_effect k).drained }
+seen_of k = record { answer = answer_from (case_effect k).answer; records = record_table (case_effect k).drained }
 
 wanted : Case → Seen
-wanted k = record { verdict = Accepted; answer = k.answer; records = k.records }
+wanted k = record { answer = Ok k.answer; records = k.records }
 
 -- the table, computed
 computed : map seen_of cases ≡ map wanted cases
@@ -46,7 +43,7 @@ map_at (x ∷ ks) e k (Memᴰ.tail h) = let z : map seen_of ks ≡ map wanted ks
 record Row (k : Case) : Type 0 where
   compiled_as : Compiled
   is_compiled_lem : (case_effect k).answer ≡ compiled compiled_as
-  answer_is : answer_from (case_effect k).answer ≡ k.answer
+  answer_is : answer_from (case_effect k).answer ≡ Ok k.answer
   records_are : record_table (case_effect k).drained ≡ k.records
 
 row : (k : Case) → Memᴰ k cases → Row k
@@ -58,9 +55,8 @@ row k i = go (case_effect k).answer refl
 
     go : (x : Def.Answer) → (case_effect k).answer ≡ x → Row k
     go (refused n) h =
-        let v : Refused n ≡ Accepted = sym (ap (λ (y : Def.Answer). (answer_from y).verdict) h) ∙ ap (λ (s : Seen). s.verdict) e in
-        let z : ◌≡◌ {A = ℕ} 0 1 = cc in
-        absurd (omega arith)
+        let v : ◌≡◌ {A = Result Code.Compiled ℕ} (Err n) (Ok k.answer) = sym (ap answer_from h) ∙ ap (λ (s : Seen). s.answer) e in
+        absurd cc
     go (compiled a) h = record { compiled_as = a; is_compiled_lem = h; answer_is = ap (λ (s : Seen). s.answer) e; records_are = ap (λ (s : Seen). s.records) e }
 
 -- a call lays its effect's words over the tables

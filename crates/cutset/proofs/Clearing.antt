@@ -62,3 +62,6 @@ all_of_them t count i u a b g =
           let z : i ≡ length ns = omega arith in
           g.so_far ns old q h ∙ ap (λ (k : ℕ). over (node_table (cleared k ns)) old) z ∙ ap (λ (m : List Node). over (node_table m) old) (all_cleared ns);
     }
+
+-- what clearing the flags needs
+pub ruleset clearing = (none_yet, one_more, all_of_them)

@@ -16,19 +16,18 @@ use Rattle.cutset.specs.declared.Wanted.{Wanted}
 use Rattle.cutset.specs.Trace.{Settled, Trace, Tracing, Traced, FewInside, FewLink, adding, along_edges, of_row}
 use Rattle.cutset.proofs.Handing.{edge_words_lem, row_is, row_alike}
 
--- the edge whose number and one is e: it is there, its parent is a row, its next number is smaller
-pub record Link (d : Diagram) (e : ℕ) : Type 0 where
-  pub edge_in : e - 1 < length d.edges
-  pub from_in : (edge_at d.edges (e - 1)).from < length d.nodes
-  pub falls : (edge_at d.edges (e - 1)).next < e
+-- edge i: it is there, its parent is a row, its next number leads to an older edge
+pub record Arrow (d : Diagram) (i : ℕ) : Type 0 where
+  pub edge_in : i < length d.edges
+  pub from_in : (edge_at d.edges i).from < length d.nodes
+  pub falls : (edge_at d.edges i).next ≤ i
 
-link_of : (d : Diagram) (e : ℕ) → Wired d → d.start ≤ length d.nodes → 0 < e → e ≤ length d.edges → Link d e
-link_of d e w s h l =
-    let i : e - 1 < length d.edges = omega arith in
+arrow_of : (d : Diagram) (i : ℕ) → Wired d → d.start ≤ length d.nodes → i < length d.edges → Arrow d i
+arrow_of d i w s h =
     record {
-      edge_in = i;
-      from_in = omega (arith, (w.arrows (e - 1) i).from_in);
-      falls = omega (arith, w.link (e - 1) i, newest_low (e - 1) d.edges (edge_at d.edges (e - 1)).to);
+      edge_in = h;
+      from_in = omega (arith, (w.arrows i h).from_in);
+      falls = omega (arith, w.link i h, newest_low i d.edges (edge_at d.edges i).to);
     }
 
 along_one : (f : ℕ) (es : List Edge) (e : ℕ) → along_next (suc f) es (suc e) ≡ e ∷ along_next f es (edge_at es e).next
@@ -41,13 +40,13 @@ along_end zero es = refl
 along_end (suc f) es = refl
 
 -- one parent, and then those over the edges behind
-step_one : (d : Diagram) (f e : ℕ) (c : Cutset) → 0 < e → 0 < f → frontier_edges d.edges (along_next f d.edges e) c ≡ frontier_edges d.edges (along_next (f - 1) d.edges (edge_at d.edges (e - 1)).next) (adding (edge_at d.edges (e - 1)).from d c)
+step_one : (d : Diagram) (f e i : ℕ) (c : Cutset) → e ≡ i + 1 → 0 < f → frontier_edges d.edges (along_next f d.edges e) c ≡ frontier_edges d.edges (along_next (f - 1) d.edges (edge_at d.edges i).next) (adding (edge_at d.edges i).from d c)
 unfolding frontier_edges
-step_one d f e c h k =
+step_one d f e i c h k =
     let y : f ≡ suc (f - 1) = omega arith in
-    let z : e ≡ suc (e - 1) = omega arith in
-    let q : along_next f d.edges e ≡ (e - 1) ∷ along_next (f - 1) d.edges (edge_at d.edges (e - 1)).next =
-    ap (λ (x : ℕ). along_next x d.edges e) y ∙ ap (λ (x : ℕ). along_next (suc (f - 1)) d.edges x) z ∙ along_one (f - 1) d.edges (e - 1) in
+    let z : e ≡ suc i = omega arith in
+    let q : along_next f d.edges e ≡ i ∷ along_next (f - 1) d.edges (edge_at d.edges i).next =
+    ap (λ (x : ℕ). along_next x d.edges e) y ∙ ap (λ (x : ℕ). along_next (suc (f - 1)) d.edges x) z ∙ along_one (f - 1) d.edges i in
     ap (λ (l : List ℕ). frontier_edges d.edges l c) q
 
 -- The walk stands at edge e (its number and one): the parents over the edges from e on lead to the cutset aimed at.
@@ -69,14 +68,13 @@ walk_starts w e count ns es rs =
       does = λ d old_n old_e old_r c z t p. record { cut = c; fuel = length d.edges; enough = p.0; inside = p.0; few = p.1; trace = t; left = refl };
     }
 
-pub walk_ends : (w : Wanted) (e₀ count₀ : ℕ) (ns₀ es rs₀ : List ℕ) (e count : ℕ) (ns rs : List ℕ) → e ≤ 0 → Walking w e₀ count₀ ns₀ es rs₀ e count ns rs → Traced (FewLink e₀) (along_edges e₀) w count₀ ns₀ es rs₀ count ns rs
+pub walk_ends : (w : Wanted) (e₀ count₀ : ℕ) (ns₀ es rs₀ : List ℕ) (e count : ℕ) (ns rs : List ℕ) → e ≡ 0 → Walking w e₀ count₀ ns₀ es rs₀ e count ns rs → Traced (FewLink e₀) (along_edges e₀) w count₀ ns₀ es rs₀ count ns rs
 unfolding frontier_edges
 walk_ends w e₀ count₀ ns₀ es rs₀ e count ns rs h g =
     record {
       does = λ d old_n old_e old_r c z t p.
           let l = g.does d old_n old_e old_r c z t p in
-          let y : e ≡ 0 = omega arith in
-          let q : l.cut ≡ along_edges e₀ d c = ap (λ (x : List ℕ). frontier_edges d.edges x l.cut) (sym (ap (along_next l.fuel d.edges) y ∙ along_end l.fuel d.edges)) ∙ l.left in
+          let q : l.cut ≡ along_edges e₀ d c = ap (λ (x : List ℕ). frontier_edges d.edges x l.cut) (sym (ap (along_next l.fuel d.edges) h ∙ along_end l.fuel d.edges)) ∙ l.left in
           subst (λ (x : Cutset). Trace w d old_n old_e old_r x count ns es rs) q l.trace;
     }
 
@@ -102,22 +100,22 @@ standing w e₀ count₀ ns₀ es rs₀ e count ns rs x g =
       here = g.does x.diagram x.old_n x.old_e x.old_r x.cut x.settled x.trace x.asked;
     }
 
-module _ (w : Wanted) (e count : ℕ) (ns es rs : List ℕ) (s : Standing w e count ns es rs) (h : 0 < e) where
-  at_link : Link s.diagram e
-  at_link = link_of s.diagram e s.settled.wired s.settled.start_in h s.here.inside
+module _ (w : Wanted) (e count : ℕ) (ns es rs : List ℕ) (s : Standing w e count ns es rs) (i : ℕ) (h : e ≡ i + 1) where
+  arrow : Arrow s.diagram i
+  arrow = arrow_of s.diagram i s.settled.wired s.settled.start_in (omega (arith, s.here.inside))
 
-  pub edge_asked : (e - 1) * edge_words + edge_words ≤ length es
+  pub edge_asked : i * edge_words + edge_words ≤ length es
   edge_asked =
       let n = edge_words_lem w s.diagram s.old_n s.old_e s.old_r s.here.cut count ns es rs s.settled s.here.trace in
-      omega (arith, at_link.edge_in)
+      omega (arith, arrow.edge_in)
 
-  edge_is : (x : Edge) → EdgeRead es (e - 1) x → x ≡ edge_at s.diagram.edges (e - 1)
-  edge_is x read = read.is_row s.diagram.edges s.old_e s.here.trace.edges_are at_link.edge_in
+  edge_is : (x : Edge) → EdgeRead es i x → x ≡ edge_at s.diagram.edges i
+  edge_is x read = read.is_row s.diagram.edges s.old_e s.here.trace.edges_are arrow.edge_in
 
-  pub next_falls : (x : Edge) → EdgeRead es (e - 1) x → x.next < e
-  next_falls x read = rw (edge_is x read) at_link.falls
+  pub next_falls : (x : Edge) → EdgeRead es i x → x.next < e
+  next_falls x read = rw (edge_is x read) (omega (arith, arrow.falls))
 
-  pub parent_asked : (x : Edge) → EdgeRead es (e - 1) x → Tracing (FewInside x.from) w count ns es rs
+  pub parent_asked : (x : Edge) → EdgeRead es i x → Tracing (FewInside x.from) w count ns es rs
   parent_asked x read =
       record {
         diagram = s.diagram;
@@ -127,19 +125,19 @@ module _ (w : Wanted) (e count : ℕ) (ns es rs : List ℕ) (s : Standing w e co
         cut = s.here.cut;
         settled = s.settled;
         trace = s.here.trace;
-        asked = (rw (edge_is x read) at_link.from_in, s.here.few);
+        asked = (rw (edge_is x read) arrow.from_in, s.here.few);
       }
 
 -- one edge more
-pub walk_on : (w : Wanted) (e₀ count₀ : ℕ) (ns₀ es rs₀ : List ℕ) (e count : ℕ) (ns rs : List ℕ) (x : Edge) (count' : ℕ) (ns' rs' : List ℕ) → 0 < e → EdgeRead es (e - 1) x → Walking w e₀ count₀ ns₀ es rs₀ e count ns rs → Traced (FewInside x.from) (adding x.from) w count ns es rs count' ns' rs' → Walking w e₀ count₀ ns₀ es rs₀ x.next count' ns' rs'
-walk_on w e₀ count₀ ns₀ es rs₀ e count ns rs x count' ns' rs' h read g t =
+pub walk_on : (w : Wanted) (e₀ count₀ : ℕ) (ns₀ es rs₀ : List ℕ) (e count : ℕ) (ns rs : List ℕ) (i : ℕ) (x : Edge) (count' : ℕ) (ns' rs' : List ℕ) → e ≡ i + 1 → EdgeRead es i x → Walking w e₀ count₀ ns₀ es rs₀ e count ns rs → Traced (FewInside x.from) (adding x.from) w count ns es rs count' ns' rs' → Walking w e₀ count₀ ns₀ es rs₀ x.next count' ns' rs'
+walk_on w e₀ count₀ ns₀ es rs₀ e count ns rs i x count' ns' rs' h read g t =
     record {
       does = λ d old_n old_e old_r c z tr p.
           let l = g.does d old_n old_e old_r c z tr p in
-          let k = link_of d e z.wired z.start_in h l.inside in
-          let q : x ≡ edge_at d.edges (e - 1) = read.is_row d.edges old_e l.trace.edges_are k.edge_in in
-          let nx : x.next ≡ (edge_at d.edges (e - 1)).next = ap (λ (y : Edge). y.next) q in
-          let fr : x.from ≡ (edge_at d.edges (e - 1)).from = ap (λ (y : Edge). y.from) q in
+          let k = arrow_of d i z.wired z.start_in (omega (arith, l.inside)) in
+          let q : x ≡ edge_at d.edges i = read.is_row d.edges old_e l.trace.edges_are k.edge_in in
+          let nx : x.next ≡ (edge_at d.edges i).next = ap (λ (y : Edge). y.next) q in
+          let fr : x.from ≡ (edge_at d.edges i).from = ap (λ (y : Edge). y.from) q in
           record {
             cut = adding x.from d l.cut;
             fuel = l.fuel - 1;
@@ -147,7 +145,7 @@ walk_on w e₀ count₀ ns₀ es rs₀ e count ns rs x count' ns' rs' h read g t
             inside = omega (arith, l.inside, k.falls);
             few = add_few x.from l.cut l.few;
             trace = t.does d old_n old_e old_r l.cut z l.trace (omega (arith, k.from_in), l.few);
-            left = rw (nx, fr) (sym (step_one d l.fuel e l.cut h (omega (arith, l.enough))) ∙ l.left);
+            left = rw (nx, fr) (sym (step_one d l.fuel e i l.cut h (omega (arith, l.enough))) ∙ l.left);
           };
     }
 

@@ -2,6 +2,7 @@
 pub mod Commute
 pub mod Handing
 pub mod Listing
+pub mod Steps
 pub mod Inbound
 pub mod Layered
 pub mod Clearing

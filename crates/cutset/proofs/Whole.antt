@@ -1,5 +1,6 @@
 -- A whole cutset listed, and listed again to be drained.
 use mathlib.Core.Path.{◌≡◌, refl, sym, ap, subst, ◌∙◌}
+use Rattle.std.specs.Prelude.{Option, Some, None, Result, Ok, Err}
 use mathlib.Core.Bool.{true, false}
 use mathlib.Core.List.{List}
 use Prim.Native.Nat.{ℕ, ◌-◌, ◌*◌, ◌<◌, ◌≤◌}
@@ -18,13 +19,11 @@ use Rattle.layout.specs.Rows.{node_words, node_table, edge_table}
 use Rattle.layout.specs.Records.{record_words, record_table}
 use Rattle.layout.proofs.Records.{over_none}
 use Rattle.finish.proofs.Rewriting.{nodes_within}
+use Rattle.layers.specs.declared.Layer.{Layer}
 use Rattle.layers.specs.declared.Layers.{Layers}
-use Rattle.layers.specs.Stored.{range, Sized, stored, last_of}
+use Rattle.layers.specs.Stored.{range_of, stored, last_of}
 use Rattle.cutset.specs.declared.Wanted.{Wanted}
 use Rattle.cutset.specs.declared.Kind.{Kind}
-use Rattle.layers.specs.declared.Last.{Last}
-use Rattle.layers.specs.declared.Last.TheVariants.{Unsquashed, After}
-use Rattle.cutset.specs.declared.Drained.TheVariants.{Records, TooMany}
 use Rattle.cutset.specs.Clearing.{Cleared}
 use Rattle.cutset.specs.Trace.{drained_of, Settled, Trace, Tracing, Traced, Upto, FewRanges, listings, of_layers}
 use Rattle.cutset.specs.Whole.{kind_of, LastIn, counting, Shaped, cutset_from, Bounded, Drainable, DrainedOff}
@@ -34,45 +33,45 @@ use Rattle.cutset.proofs.Listing.{tracing_as}
 
 -- ---- one kind or the other
 
-pub none_last : (w : Wanted) (l : Layers) (s : Last) (ns es rs : List ℕ) → s ≡ Unsquashed → Traced (Shaped l s) (cutset_from last_exact_layer) w 0 ns es rs 0 ns rs
+pub none_last : (w : Wanted) (l : Layers) (s : Option Layer) (k₀ : ℕ) (ns es rs : List ℕ) → s ≡ None → Traced (Shaped l s) (cutset_from last_exact_layer) w k₀ ns es rs k₀ ns rs
 unfolding cutset_from layer_cutset
-none_last w l s ns es rs e =
+none_last w l s k₀ ns es rs e =
     record {
       does = λ d old_n old_e old_r c z t p.
           let q : d.last ≡ unsquashed = p.last_is ∙ ap last_of e in
-          subst (λ (x : LastExact). Trace w d old_n old_e old_r (layer_cutset x c) 0 ns es rs) (sym q) t;
+          subst (λ (x : LastExact). Trace w d old_n old_e old_r (layer_cutset x c) k₀ ns es rs) (sym q) t;
     }
 
-last_upto : (n : ℕ) (s : Last) (from to : ℕ) → s ≡ After from to → LastIn n s → to ≤ n
-last_upto n s from to e h = rw e at h
+last_upto : (n : ℕ) (s : Option Layer) (y : Layer) → s ≡ Some y → LastIn n s → y.to ≤ n
+last_upto n s y e h = rw e at h
 
-pub last_asked : (w : Wanted) (l : Layers) (s : Last) (ns es rs : List ℕ) (from to : ℕ) → s ≡ After from to → Tracing (Shaped l s) w 0 ns es rs → Tracing (Upto to) w 0 ns es rs
-last_asked w l s ns es rs from to e x =
-    tracing_as (Shaped l s) (Upto to) w 0 ns es rs (λ d c p. last_upto (length d.nodes) s from to e p.last_in) x
+pub last_asked : (w : Wanted) (l : Layers) (s : Option Layer) (k₀ : ℕ) (ns es rs : List ℕ) (y : Layer) → s ≡ Some y → Tracing (Shaped l s) w k₀ ns es rs → Tracing (Upto y.to) w k₀ ns es rs
+last_asked w l s k₀ ns es rs y e x =
+    tracing_as (Shaped l s) (Upto y.to) w k₀ ns es rs (λ d c p. last_upto (length d.nodes) s y e p.last_in) x
 
-pub last_listed : (w : Wanted) (l : Layers) (s : Last) (ns es rs : List ℕ) (from to : ℕ) (k : ℕ) (ns' rs' : List ℕ) → s ≡ After from to → Traced (Upto to) (listings from (to - from)) w 0 ns es rs k ns' rs' → Traced (Shaped l s) (cutset_from last_exact_layer) w 0 ns es rs k ns' rs'
+pub last_listed : (w : Wanted) (l : Layers) (s : Option Layer) (k₀ : ℕ) (ns es rs : List ℕ) (y : Layer) (k : ℕ) (ns' rs' : List ℕ) → s ≡ Some y → Traced (Upto y.to) (listings y.from (y.to - y.from)) w k₀ ns es rs k ns' rs' → Traced (Shaped l s) (cutset_from last_exact_layer) w k₀ ns es rs k ns' rs'
 unfolding cutset_from layer_cutset rows_of
-last_listed w l s ns es rs from to k ns' rs' e g =
+last_listed w l s k₀ ns es rs y k ns' rs' e g =
     record {
       does = λ d old_n old_e old_r c z t p.
-          let q : d.last ≡ squashed_after (range from to) = p.last_is ∙ ap last_of e in
+          let q : d.last ≡ squashed_after (range_of y) = p.last_is ∙ ap last_of e in
           subst (λ (x : LastExact). Trace w d old_n old_e old_r (layer_cutset x c) k ns' es rs') (sym q)
-          (g.does d old_n old_e old_r c z t (last_upto (length d.nodes) s from to e p.last_in));
+          (g.does d old_n old_e old_r c z t (last_upto (length d.nodes) s y e p.last_in));
     }
 
-pub layers_asked : (w : Wanted) (l : Layers) (s : Last) (ns es rs : List ℕ) → Tracing (Shaped l s) w 0 ns es rs → Tracing (FewRanges (stored l)) w 0 ns es rs
-layers_asked w l s ns es rs x = tracing_as (Shaped l s) (FewRanges (stored l)) w 0 ns es rs (λ d c p. (p.ranged, p.few)) x
+pub layers_asked : (w : Wanted) (l : Layers) (s : Option Layer) (k₀ : ℕ) (ns es rs : List ℕ) → Tracing (Shaped l s) w k₀ ns es rs → Tracing (FewRanges (stored l)) w k₀ ns es rs
+layers_asked w l s k₀ ns es rs x = tracing_as (Shaped l s) (FewRanges (stored l)) w k₀ ns es rs (λ d c p. (p.ranged, p.few)) x
 
-pub layers_listed : (w : Wanted) (l : Layers) (s : Last) (ns es rs : List ℕ) (k : ℕ) (ns' rs' : List ℕ) → Traced (FewRanges (stored l)) (of_layers (stored l)) w 0 ns es rs k ns' rs' → Traced (Shaped l s) (cutset_from frontier) w 0 ns es rs k ns' rs'
+pub layers_listed : (w : Wanted) (l : Layers) (s : Option Layer) (k₀ : ℕ) (ns es rs : List ℕ) (k : ℕ) (ns' rs' : List ℕ) → Traced (FewRanges (stored l)) (of_layers (stored l)) w k₀ ns es rs k ns' rs' → Traced (Shaped l s) (cutset_from frontier) w k₀ ns es rs k ns' rs'
 unfolding cutset_from
-layers_listed w l s ns es rs k ns' rs' g =
+layers_listed w l s k₀ ns es rs k ns' rs' g =
     record {
       does = λ d old_n old_e old_r c z t p.
           subst (λ (x : List Range). Trace w d old_n old_e old_r (frontier_layers d.edges x c) k ns' es rs') (sym p.layers_are) (g.does d old_n old_e old_r c z t (p.ranged, p.few));
     }
 
-pub of_kind : (w : Wanted) (l : Layers) (s : Last) (ns es rs : List ℕ) (k : Kind) (kind : CutsetKind) (n : ℕ) (ns' rs' : List ℕ) → kind_of k ≡ kind → Traced (Shaped l s) (cutset_from kind) w 0 ns es rs n ns' rs' → Traced (Shaped l s) (cutset_from (kind_of k)) w 0 ns es rs n ns' rs'
-of_kind w l s ns es rs k kind n ns' rs' e g = rw e g
+pub of_kind : (w : Wanted) (l : Layers) (s : Option Layer) (k₀ : ℕ) (ns es rs : List ℕ) (k : Kind) (kind : CutsetKind) (n : ℕ) (ns' rs' : List ℕ) → kind_of k ≡ kind → Traced (Shaped l s) (cutset_from kind) w k₀ ns es rs n ns' rs' → Traced (Shaped l s) (cutset_from (kind_of k)) w k₀ ns es rs n ns' rs'
+of_kind w l s k₀ ns es rs k kind n ns' rs' e g = rw e g
 
 -- ---- from no row listed to the whole cutset
 
@@ -99,25 +98,23 @@ settled_as w room best d rs h z =
 counting_settled : (w : Wanted) (d : Diagram) (rs : List ℕ) → Settled w d rs → Settled (counting w) d rs
 counting_settled w d rs z = settled_as w 0 w.best d rs (omega arith) z
 
-pub count_first : (w : Wanted) (l : Layers) (s : Last) (count : ℕ) (ns es rs : List ℕ) → Drainable w l s count ns es rs → Tracing (Shaped l s) (counting w) 0 ns es rs × (Sized l × (l.count ≤ 65))
+pub count_first : (w : Wanted) (l : Layers) (s : Option Layer) (count : ℕ) (ns es rs : List ℕ) → Drainable w l s count ns es rs → Tracing (Shaped l s) (counting w) 0 ns es rs
 count_first w l s count ns es rs x =
-    let b = x.bounded in (
-      record {
-        diagram = x.diagram;
-        old_n = x.old_n;
-        old_e = x.old_e;
-        old_r = rs;
-        cut = no_cutset x.diagram;
-        settled = counting_settled w x.diagram rs b.settled;
-        trace = fresh_trace (counting w) x.diagram x.old_n x.old_e rs ns es rs b.nodes_are b.edges_are refl;
-        asked = b.shaped;
-      },
-      (x.sized, x.layers_in),
-    )
+    let b = x.bounded in
+    record {
+      diagram = x.diagram;
+      old_n = x.old_n;
+      old_e = x.old_e;
+      old_r = rs;
+      cut = no_cutset x.diagram;
+      settled = counting_settled w x.diagram rs b.settled;
+      trace = fresh_trace (counting w) x.diagram x.old_n x.old_e rs ns es rs b.nodes_are b.edges_are refl;
+      asked = b.shaped;
+    }
 
 -- ---- counted, and listed again to be drained
 
-module _ (w : Wanted) (l : Layers) (s : Last) (k : Kind) (count : ℕ) (ns es rs : List ℕ) (n : ℕ) (ns₁ rs₁ : List ℕ) (g : Traced (Shaped l s) (cutset_from (kind_of k)) (counting w) 0 ns es rs n ns₁ rs₁) where
+module _ (w : Wanted) (l : Layers) (s : Option Layer) (k : Kind) (count : ℕ) (ns es rs : List ℕ) (n : ℕ) (ns₁ rs₁ : List ℕ) (g : Traced (Shaped l s) (cutset_from (kind_of k)) (counting w) 0 ns es rs n ns₁ rs₁) where
   module _ (d : Diagram) (old_n old_e : List ℕ) (b : Bounded w l s d old_n old_e count ns es rs) where
     pub counted : Trace (counting w) d old_n old_e rs (cutset_of (kind_of k) d) n ns₁ es rs₁
     counted =
@@ -149,7 +146,7 @@ module _ (w : Wanted) (l : Layers) (s : Last) (k : Kind) (count : ℕ) (ns es rs
         subst (λ (c : Cutset). Trace w d old_n old_e rs c m ns₃ es rs₃) (from_none (kind_of k) d)
         (h.does d old_n old_e rs (no_cutset d) b.settled (unflagged ns₂ cl) b.shaped)
 
-  pub too_many : w.room < n → DrainedOff w l s k count ns es rs TooMany ns₁ rs₁
+  pub too_many : w.room < n → DrainedOff w l s k count ns es rs (Err 13) ns₁ rs₁
   too_many h =
       record {
         does = λ d old_n old_e b.
@@ -165,23 +162,21 @@ module _ (w : Wanted) (l : Layers) (s : Last) (k : Kind) (count : ℕ) (ns es rs
   pub clear_asked : Drainable w l s count ns es rs → count * node_words ≤ length ns₁
   clear_asked x = flags_words x.diagram x.old_n x.old_e x.bounded
 
-  pub list_again : (ns₂ : List ℕ) → Cleared ns₁ count ns₂ → Drainable w l s count ns es rs → Tracing (Shaped l s) w 0 ns₂ es rs₁ × (Sized l × (l.count ≤ 65))
+  pub list_again : (ns₂ : List ℕ) → Cleared ns₁ count ns₂ → Drainable w l s count ns es rs → Tracing (Shaped l s) w 0 ns₂ es rs₁
   list_again ns₂ cl x =
-      let b = x.bounded in (
-        record {
-          diagram = x.diagram;
-          old_n = x.old_n;
-          old_e = x.old_e;
-          old_r = rs;
-          cut = no_cutset x.diagram;
-          settled = b.settled;
-          trace = unflagged x.diagram x.old_n x.old_e b ns₂ cl;
-          asked = b.shaped;
-        },
-        (x.sized, x.layers_in),
-      )
+      let b = x.bounded in
+      record {
+        diagram = x.diagram;
+        old_n = x.old_n;
+        old_e = x.old_e;
+        old_r = rs;
+        cut = no_cutset x.diagram;
+        settled = b.settled;
+        trace = unflagged x.diagram x.old_n x.old_e b ns₂ cl;
+        asked = b.shaped;
+      }
 
-  pub all_drained : (ns₂ : List ℕ) (m : ℕ) (ns₃ rs₃ : List ℕ) → n ≤ w.room → Cleared ns₁ count ns₂ → Traced (Shaped l s) (cutset_from (kind_of k)) w 0 ns₂ es rs₁ m ns₃ rs₃ → DrainedOff w l s k count ns es rs (Records m) ns₃ rs₃
+  pub all_drained : (ns₂ : List ℕ) (m : ℕ) (ns₃ rs₃ : List ℕ) → n ≤ w.room → Cleared ns₁ count ns₂ → Traced (Shaped l s) (cutset_from (kind_of k)) w 0 ns₂ es rs₁ m ns₃ rs₃ → DrainedOff w l s k count ns es rs (Ok m) ns₃ rs₃
   all_drained ns₂ m ns₃ rs₃ h cl y =
       record {
         does = λ d old_n old_e b.
@@ -190,8 +185,12 @@ module _ (w : Wanted) (l : Layers) (s : Last) (k : Kind) (count : ℕ) (ns es rs
             let f : length xs ≤ w.room = omega (arith, found_is d old_n old_e b) in
             let t : leb (length xs) w.room ≡ true = le-leb (length xs) w.room f in
             record {
-              answer_is = rw t (ap Records z.handed.count_is);
+              answer_is = rw t (ap Ok z.handed.count_is);
               nodes_are = z.nodes_are;
               records_are = rw t (z.handed.records_are ∙ ap (λ (x : List Record). over (record_table x) rs) (take_all w.room xs f));
             };
       }
+
+-- the list that was lent holds what the traversal's list held
+pub drained_at : (w : Wanted) (l : Layers) (s : Option Layer) (k : Kind) (count : ℕ) (ns es rs : List ℕ) (r : Result ℕ ℕ) (ns' rs' rs'' : List ℕ) → DrainedOff w l s k count ns es rs r ns' rs' → rs'' ≡ rs' → DrainedOff w l s k count ns es rs r ns' rs''
+drained_at w l s k count ns es rs r ns' rs' rs'' d e = rw e d

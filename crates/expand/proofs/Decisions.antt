@@ -1,5 +1,5 @@
 -- Take, if it fits, then skip: what the two calls mean for the diagram.
-use mathlib.Core.Path.{◌≡◌, refl, sym, ap, subst, ◌∙◌}
+use mathlib.Core.Path.{◌≡◌, refl, sym, ap, ◌∙◌}
 use mathlib.Core.Bool.{Bool, true, false}
 use mathlib.Core.List.{List}
 use Prim.Native.Nat.{ℕ, suc, ◌+◌, ◌-◌, ◌*◌, ◌<◌, ◌≤◌}
@@ -17,17 +17,10 @@ use Rattle.diagram.specs.Rule3.{branch_take, branch_both}
 use Rattle.diagram.specs.Rule4.{branch_on}
 use Rattle.branch.specs.declared.Counts.{Counts}
 use Rattle.branch.specs.declared.Rooms.{Rooms}
-use Rattle.branch.specs.declared.Step.{Step}
-use Rattle.branch.specs.declared.Step.TheVariants.{Going, Stopped}
-use Rattle.branch.specs.State.{Ready, Fit, StillFit, counts_of, diagram_of, Stands, Held, Stepped, Branched}
+use Rattle.branch.specs.State.{Said, Going, Stopped, Fit, counts_of, diagram_of, Stands, Held, Stepped, Branched}
 use Rattle.branch.proofs.Branches.{Kept, branch_kept}
 use Rattle.expand.specs.declared.Item.{Item}
-use Rattle.expand.specs.State.{Roomy, Taken, Both}
-
--- tables with room enough are ready
-pub ready_of : (start : ℕ) (k : Counts) (rooms : Rooms) (ns es : List ℕ) → Roomy start k rooms ns es → Ready start k rooms ns es
-ready_of start k rooms ns es r =
-    record { start_low = r.fit.low; rows_in = omega (arith, r.fit.nodes, r.rooms_in); rooms_in = r.rooms_in; edges_in = r.edges_in }
+use Rattle.expand.specs.State.{Taken, Both}
 
 pub not_taken : (start : ℕ) (k : Counts) (rooms : Rooms) (n capacity : ℕ) (i : Item) (ns es : List ℕ) → Fit start k rooms → capacity < i.weight → Taken start k rooms n capacity i ns es (Going k) ns es
 unfolding branch_take only_if
@@ -39,7 +32,7 @@ not_taken start k rooms n capacity i ns es fit h =
           rw f (record { step_is = ap Going st.counts_are; held = held });
     }
 
-pub taken : (start : ℕ) (k : Counts) (rooms : Rooms) (n capacity : ℕ) (i : Item) (ns es : List ℕ) (r : Step) (ns' es' : List ℕ) → i.weight ≤ capacity → Fit start k rooms → Branched start k rooms n (record { decision = 2 * i.depth + 1; cost = i.profit; capacity = capacity - i.weight; depth = i.depth + 1 }) ns es r ns' es' → Taken start k rooms n capacity i ns es r ns' es'
+pub taken : (start : ℕ) (k : Counts) (rooms : Rooms) (n capacity : ℕ) (i : Item) (ns es : List ℕ) (r : Said) (ns' es' : List ℕ) → i.weight ≤ capacity → Fit start k rooms → Branched start k rooms n (record { decision = 2 * i.depth + 1; cost = i.profit; capacity = capacity - i.weight; depth = i.depth + 1 }) ns es r ns' es' → Taken start k rooms n capacity i ns es r ns' es'
 unfolding branch_take only_if takes
 taken start k rooms n capacity i ns es r ns' es' h fit b =
     record {
@@ -70,24 +63,18 @@ stands_on s d e old_n old_e start k k' rooms st kept c fit =
       old_edges = st.old_edges;
     }
 
--- the counts of a step that went on are within the rooms
-pub still_fit : (start : ℕ) (rooms : Rooms) (t : Step) (k' : Counts) → StillFit start rooms t → t ≡ Going k' → Fit start k' rooms
-still_fit start rooms t k' f e = subst (StillFit start rooms) e f
-
 -- a run that stopped stays stopped
-pub stays_stopped : (run : Run) (f : Diagram → Run) (old_n old_e : List ℕ) (t : Step) (number : ℕ) (c : Counts) (ns es : List ℕ) → Stepped run old_n old_e t ns es → t ≡ Stopped number c → Stepped (and_then run f) old_n old_e (Stopped number c) ns es
-stays_stopped (going d) f old_n old_e t number c ns es st e = let w = st.step_is in let z : ◌≡◌ {A = ℕ} 0 1 = cc in absurd (omega arith)
-stays_stopped (stopped n d) f old_n old_e t number c ns es st e = record { step_is = sym e ∙ st.step_is; held = st.held }
+pub stays_stopped : (run : Run) (f : Diagram → Run) (old_n old_e : List ℕ) (number : ℕ) (c : Counts) (ns es : List ℕ) → Stepped run old_n old_e (Stopped number c) ns es → Stepped (and_then run f) old_n old_e (Stopped number c) ns es
+stays_stopped (going d) f old_n old_e number c ns es st = let w = st.step_is in absurd (cc)
+stays_stopped (stopped n d) f old_n old_e number c ns es st = st
 
 -- one that went on is followed by the next
-pub goes_on : (run : Run) (f : Diagram → Run) (old_n old_e : List ℕ) (t : Step) (k' : Counts) (ns es : List ℕ) (r : Step) (ns' es' : List ℕ) → Stepped run old_n old_e t ns es → t ≡ Going k' → (k' ≡ counts_of (diagram_of run) → Held (diagram_of run) old_n old_e ns es → Stepped (f (diagram_of run)) old_n old_e r ns' es') → Stepped (and_then run f) old_n old_e r ns' es'
-goes_on (going d) f old_n old_e t k' ns es r ns' es' st e next =
+pub goes_on : (run : Run) (f : Diagram → Run) (old_n old_e : List ℕ) (k' : Counts) (ns es : List ℕ) (r : Said) (ns' es' : List ℕ) → Stepped run old_n old_e (Going k') ns es → (k' ≡ counts_of (diagram_of run) → Held (diagram_of run) old_n old_e ns es → Stepped (f (diagram_of run)) old_n old_e r ns' es') → Stepped (and_then run f) old_n old_e r ns' es'
+goes_on (going d) f old_n old_e k' ns es r ns' es' st next =
     let w = st.step_is in
     let q : k' ≡ counts_of d = cc in
     next q st.held
-goes_on (stopped n d) f old_n old_e t k' ns es r ns' es' st e next = let w = st.step_is in let z : ◌≡◌ {A = ℕ} 0 1 = cc in absurd (omega arith)
-
--- ---- take, then skip
+goes_on (stopped n d) f old_n old_e k' ns es r ns' es' st next = let w = st.step_is in absurd (cc)
 
 pub take_kept : (s : Settings) (item : Blocks.Item) (k n capacity : ℕ) (d : Diagram) → d.start ≤ length d.nodes → Kept d (diagram_of (branch_take s item k n capacity d))
 unfolding branch_take only_if
@@ -97,26 +84,27 @@ take_kept s item k n capacity d h = go (leb (counted item.weight) capacity)
     go true = branch_kept s n (takes k) item.profit (capacity - counted item.weight) d h
     go false = record { start_is = refl; front_is = refl; longer = omega arith }
 
-pub both_stopped : (start : ℕ) (k : Counts) (rooms : Rooms) (n capacity : ℕ) (i : Item) (ns es : List ℕ) (t : Step) (ns₁ es₁ : List ℕ) (number : ℕ) (c : Counts) → Taken start k rooms n capacity i ns es t ns₁ es₁ → t ≡ Stopped number c → Both start k rooms n capacity i ns es (Stopped number c) ns₁ es₁
+pub both_stopped : (start : ℕ) (k : Counts) (rooms : Rooms) (n capacity : ℕ) (i : Item) (ns es ns₁ es₁ : List ℕ) (number : ℕ) (c : Counts) → Taken start k rooms n capacity i ns es (Stopped number c) ns₁ es₁ → Both start k rooms n capacity i ns es (Stopped number c) ns₁ es₁
 unfolding branch_both
-both_stopped start k rooms n capacity i ns es t ns₁ es₁ number c did e =
+both_stopped start k rooms n capacity i ns es ns₁ es₁ number c did =
     record {
-      fits = subst (StillFit start rooms) e did.fits;
+      fits = did.fits;
       does = λ s d old_n old_e item depth st held is h deep.
-          stays_stopped (branch_take s item depth n capacity d) _ old_n old_e t number c ns₁ es₁ (did.does s d old_n old_e item depth st held is deep) e;
+          stays_stopped (branch_take s item depth n capacity d) _ old_n old_e number c ns₁ es₁ (did.does s d old_n old_e item depth st held is deep);
     }
 
-pub both_going : (start : ℕ) (k : Counts) (rooms : Rooms) (n capacity : ℕ) (i : Item) (ns es : List ℕ) (t : Step) (ns₁ es₁ : List ℕ) (c : Counts) (r : Step) (ns₂ es₂ : List ℕ) → Taken start k rooms n capacity i ns es t ns₁ es₁ → t ≡ Going c → Branched start c rooms n (record { decision = 2 * i.depth; cost = 0; capacity = capacity; depth = i.depth + 1 }) ns₁ es₁ r ns₂ es₂ → Both start k rooms n capacity i ns es r ns₂ es₂
+pub both_going : (start : ℕ) (k : Counts) (rooms : Rooms) (n capacity : ℕ) (i : Item) (ns es ns₁ es₁ : List ℕ) (start₁ : ℕ) (c : Counts) (rooms₁ : Rooms) (r : Said) (ns₂ es₂ : List ℕ) → start₁ ≡ start → rooms₁ ≡ rooms → Taken start k rooms n capacity i ns es (Going c) ns₁ es₁ → Branched start₁ c rooms₁ n (record { decision = 2 * i.depth; cost = 0; capacity = capacity; depth = i.depth + 1 }) ns₁ es₁ r ns₂ es₂ → Both start k rooms n capacity i ns es r ns₂ es₂
 unfolding branch_both skips
-both_going start k rooms n capacity i ns es t ns₁ es₁ c r ns₂ es₂ did e next =
+both_going start k rooms n capacity i ns es ns₁ es₁ start₁ c rooms₁ r ns₂ es₂ a b did after =
+    let next = rw (a, b) at after in
     record {
-      fits = next.fits (still_fit start rooms t c did.fits e);
+      fits = next.fits did.fits;
       does = λ s d old_n old_e item depth st held is h deep.
           let run = branch_take s item depth n capacity d in
           let kept = take_kept s item depth n capacity d st.start_in in
-          goes_on run (λ x. branch_on s n (skips depth) 0 capacity x) old_n old_e t c ns₁ es₁ r ns₂ es₂ (did.does s d old_n old_e item depth st held is deep) e
+          goes_on run (λ x. branch_on s n (skips depth) 0 capacity x) old_n old_e c ns₁ es₁ r ns₂ es₂ (did.does s d old_n old_e item depth st held is deep)
           (λ q held₁.
-          let on = stands_on s d (diagram_of run) old_n old_e start k c rooms st kept q (subst (StillFit start rooms) e did.fits) in
+          let on = stands_on s d (diagram_of run) old_n old_e start k c rooms st kept q did.fits in
           let same = kept_row d (diagram_of run) kept n (omega (arith, st.first_is)) in
           let z : i.depth + 1 ≡ suc (node_at (diagram_of run).nodes n).depth = omega (arith, is.depth_is, deep, ap (λ (x : Node). x.depth) same) in
           rw is.depth_is at (next.does s (diagram_of run) old_n old_e on held₁ z));

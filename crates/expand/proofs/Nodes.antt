@@ -20,9 +20,7 @@ use Rattle.diagram.specs.Rule3.{note_fast, reach, expand}
 use Rattle.rows.specs.Access.{NodeRead, NodeWritten}
 use Rattle.branch.specs.declared.Counts.{Counts}
 use Rattle.branch.specs.declared.Rooms.{Rooms}
-use Rattle.branch.specs.declared.Step.{Step}
-use Rattle.branch.specs.declared.Step.TheVariants.{Going}
-use Rattle.branch.specs.State.{Fit, counts_of, Stands, Held}
+use Rattle.branch.specs.State.{Said, Going, Fit, counts_of, Stands, Held}
 use Rattle.expand.specs.declared.Item.{Item}
 use Rattle.expand.specs.State.{Decides, Both, Expanded}
 
@@ -90,7 +88,7 @@ not_branched weights profits start k rooms depth lower n ns es node fast ns₁ f
           });
     }
 
-pub branched_both : (weights profits : List ℕ) (start : ℕ) (k : Counts) (rooms : Rooms) (depth lower n : ℕ) (i : Item) (ns es : List ℕ) (node : Node) (fast : ℕ) (ns₁ : List ℕ) (r : Step) (ns₂ es₂ : List ℕ) → length weights ≡ length profits → depth < length weights → Noted weights profits depth n ns node fast ns₁ → lower < sat_add node.value (mid + fast) → i.depth ≡ depth → i.weight ≡ counted (get_or weights depth 0) → i.profit ≡ get_or profits depth 0 → Both start k rooms n node.capacity i ns₁ es r ns₂ es₂ → Expanded weights profits start k rooms depth lower n ns es r ns₂ es₂
+pub branched_both : (weights profits : List ℕ) (start : ℕ) (k : Counts) (rooms : Rooms) (depth lower n : ℕ) (i : Item) (ns es : List ℕ) (node : Node) (fast : ℕ) (ns₁ : List ℕ) (r : Said) (ns₂ es₂ : List ℕ) → length weights ≡ length profits → depth < length weights → Noted weights profits depth n ns node fast ns₁ → lower < sat_add node.value (mid + fast) → i.depth ≡ depth → i.weight ≡ counted (get_or weights depth 0) → i.profit ≡ get_or profits depth 0 → Both start k rooms n node.capacity i ns₁ es r ns₂ es₂ → Expanded weights profits start k rooms depth lower n ns es r ns₂ es₂
 unfolding expand only_if reach
 branched_both weights profits start k rooms depth lower n i ns es node fast ns₁ r ns₂ es₂ pair inw note h di wi pi both =
     record {

@@ -1,12 +1,12 @@
 -- A layer's expansion, node after node.
-use mathlib.Core.Path.{◌≡◌, refl, sym, ap, subst, ◌∙◌}
+use mathlib.Core.Path.{◌≡◌, refl, sym, ap, ◌∙◌}
 use mathlib.Core.Bool.{Bool, true, false}
 use mathlib.Core.List.{List, [], ◌∷◌, ◌++◌}
 use Prim.Native.Nat.{ℕ, suc, ◌+◌, ◌<◌, ◌≤◌}
 use native.Mathlib.Omega.{arith}
 use lib.Dec.{ltb}
-use lib.ListN.{length, get_or, set, take, drop, length-set, length-take, take-append-drop, get_or-map}
-use lib.Seq.{take-suc, take_all, get_or-take, map-set_same}
+use lib.ListN.{length, get_or, set, take, drop, length-set, take-append-drop, get_or-map}
+use lib.Seq.{take-suc, take_all, map-set_same}
 use Rattle.words.specs.I64.{mid}
 use Rattle.knapsack.specs.Items as Blocks
 use Rattle.knapsack.specs.Items.{skips}
@@ -18,9 +18,7 @@ use Rattle.diagram.specs.Rule3.{note_fast, reach, branch_take, branch_both, expa
 use Rattle.diagram.specs.Rule4.{branch_on}
 use Rattle.branch.specs.declared.Counts.{Counts}
 use Rattle.branch.specs.declared.Rooms.{Rooms}
-use Rattle.branch.specs.declared.Step.{Step}
-use Rattle.branch.specs.declared.Step.TheVariants.{Going, Stopped}
-use Rattle.branch.specs.State.{Fit, StillFit, counts_of, diagram_of, Stands, Stepped}
+use Rattle.branch.specs.State.{Said, Going, Stopped, Fit, StillFit, counts_of, diagram_of, Stands, Stepped}
 use Rattle.branch.proofs.Branches.{Kept, branch_kept}
 use Rattle.order.specs.Below.{Below}
 use Rattle.order.proofs.Below.{below_at}
@@ -128,60 +126,48 @@ stands_steady s d e old_n old_e start k k' rooms st steady c fit =
 
 -- ---- the code, round by round: the first i rows of the list are expanded
 
-pub record Passed (weights profits rows : List ℕ) (start : ℕ) (k : Counts) (rooms : Rooms) (depth lower : ℕ) (ns₀ es₀ : List ℕ) (i : ℕ) (step : Step) (ns es : List ℕ) : Type 0 where
+pub record Passed (weights profits rows : List ℕ) (start : ℕ) (k : Counts) (rooms : Rooms) (depth lower : ℕ) (ns₀ es₀ : List ℕ) (i : ℕ) (step : Said) (ns es : List ℕ) : Type 0 where
   pub fits : StillFit start rooms step
   pub did : (s : Settings) (d : Diagram) (old_n old_e : List ℕ) (item : Blocks.Item) (rest : List Blocks.Item) → Layer weights profits rows start k rooms depth lower ns₀ es₀ s d old_n old_e item rest → Stepped (expand_all s (item ∷ rest) item depth (take i rows) d) old_n old_e step ns es
 
-passed_none : (weights profits rows : List ℕ) (start : ℕ) (k : Counts) (rooms : Rooms) (depth lower : ℕ) (ns es : List ℕ) → Fit start k rooms → Passed weights profits rows start k rooms depth lower ns es 0 (Going k) ns es
+pub passed_none : (weights profits rows : List ℕ) (start : ℕ) (k : Counts) (rooms : Rooms) (depth lower : ℕ) (ns es : List ℕ) → Fit start k rooms → Passed weights profits rows start k rooms depth lower ns es 0 (Going k) ns es
 unfolding expand_all
 passed_none weights profits rows start k rooms depth lower ns es fit =
     record { fits = fit; did = λ s d old_n old_e item rest l. record { step_is = ap Going l.stands.counts_are; held = l.held } }
 
-passed_all : (weights profits rows : List ℕ) (start : ℕ) (k : Counts) (rooms : Rooms) (depth lower : ℕ) (ns₀ es₀ : List ℕ) (i : ℕ) (step : Step) (ns es : List ℕ) → length rows ≤ i → Passed weights profits rows start k rooms depth lower ns₀ es₀ i step ns es → AllExpanded weights profits rows start k rooms depth lower ns₀ es₀ step ns es
-passed_all weights profits rows start k rooms depth lower ns₀ es₀ i step ns es h p =
-    record { fits = p.fits; does = λ s d old_n old_e item rest l. rw (take_all i rows h) at (p.did s d old_n old_e item rest l) }
+module _ (weights profits rows : List ℕ) (start : ℕ) (k : Counts) (rooms : Rooms) (depth lower : ℕ) (ns₀ es₀ : List ℕ) where
+  pub passed_one : (i start₁ : ℕ) (c : Counts) (rooms₁ : Rooms) (ns es : List ℕ) (r : Said) (ns' es' : List ℕ) → i < length rows → Below start rows → start₁ ≡ start → rooms₁ ≡ rooms → Passed weights profits rows start k rooms depth lower ns₀ es₀ i (Going c) ns es → Expanded weights profits start₁ c rooms₁ depth lower (get_or rows i 0) ns es r ns' es' → Passed weights profits rows start k rooms depth lower ns₀ es₀ (i + 1) r ns' es'
+  passed_one i start₁ c rooms₁ ns es r ns' es' h low a b p after =
+      let next = rw (a, b) at after in
+      record {
+        fits = next.fits;
+        did = λ s d old_n old_e item rest l.
+            let n = get_or rows i 0 in
+            let run = expand_all s (item ∷ rest) item depth (take i rows) d in
+            let steady = all_steady s (item ∷ rest) item depth (take i rows) d l.stands.start_in in
+            let z : i + 1 ≡ suc i = omega arith in
+            let in_start : n < start = below_at low i h in
+            let whole : expand_all s (item ∷ rest) item depth (take (i + 1) rows) d ≡ and_then run (λ x. expand s (item ∷ rest) item depth x n) = rw (z, take-suc rows i 0 h, expand_append s (item ∷ rest) item depth (take i rows) (n ∷ []) d) (then_same run (λ x. expand_one s (item ∷ rest) item depth n x)) in
+            rw whole
+            (goes_on run (λ x. expand s (item ∷ rest) item depth x n) old_n old_e c ns es r ns' es' (p.did s d old_n old_e item rest l)
+            (λ q held₁.
+            next.does s (diagram_of run) old_n old_e item rest
+            (stands_steady s d (diagram_of run) old_n old_e start k c rooms l.stands steady q p.fits)
+            held₁ l.lower_is l.left in_start
+            (steady.depth_is n (omega (arith, l.stands.first_is)) ∙ l.deep i h)));
+      }
 
-pub passed_stopped : (weights profits rows : List ℕ) (start : ℕ) (k : Counts) (rooms : Rooms) (depth lower : ℕ) (ns₀ es₀ : List ℕ) (i : ℕ) (step : Step) (ns es : List ℕ) (number : ℕ) (c : Counts) → step ≡ Stopped number c → Passed weights profits rows start k rooms depth lower ns₀ es₀ i step ns es → AllExpanded weights profits rows start k rooms depth lower ns₀ es₀ step ns es
-passed_stopped weights profits rows start k rooms depth lower ns₀ es₀ i step ns es number c e p =
-    record {
-      fits = p.fits;
-      does = λ s d old_n old_e item rest l.
-          let a = stays_stopped (expand_all s (item ∷ rest) item depth (take i rows) d) (λ x. expand_all s (item ∷ rest) item depth (drop i rows) x) old_n old_e step number c ns es (p.did s d old_n old_e item rest l) e in
-          rw (← e) at (rw (← expand_append s (item ∷ rest) item depth (take i rows) (drop i rows) d, take-append-drop i rows) at a);
-    }
+  -- each row is expanded
+  pub passed_all : (i : ℕ) (step : Said) (ns es : List ℕ) → Passed weights profits rows start k rooms depth lower ns₀ es₀ i step ns es → length rows ≤ i → AllExpanded weights profits rows start k rooms depth lower ns₀ es₀ step ns es
+  passed_all i step ns es p h =
+      record { fits = p.fits; does = λ s d old_n old_e item rest l. rw (take_all i rows h) at (p.did s d old_n old_e item rest l) }
 
-passed_one : (weights profits rows : List ℕ) (start : ℕ) (k : Counts) (rooms : Rooms) (depth lower : ℕ) (ns₀ es₀ : List ℕ) (i : ℕ) (step : Step) (ns es : List ℕ) (c : Counts) (r : Step) (ns' es' : List ℕ) → i < length rows → Below start rows → step ≡ Going c → Passed weights profits rows start k rooms depth lower ns₀ es₀ i step ns es → Expanded weights profits start c rooms depth lower (get_or rows i 0) ns es r ns' es' → Passed weights profits rows start k rooms depth lower ns₀ es₀ (i + 1) r ns' es'
-passed_one weights profits rows start k rooms depth lower ns₀ es₀ i step ns es c r ns' es' h low e p next =
-    record {
-      fits = next.fits;
-      did = λ s d old_n old_e item rest l.
-          let n = get_or rows i 0 in
-          let run = expand_all s (item ∷ rest) item depth (take i rows) d in
-          let steady = all_steady s (item ∷ rest) item depth (take i rows) d l.stands.start_in in
-          let z : i + 1 ≡ suc i = omega arith in
-          let in_start : n < start = below_at low i h in
-          let whole : expand_all s (item ∷ rest) item depth (take (i + 1) rows) d ≡ and_then run (λ x. expand s (item ∷ rest) item depth x n) = rw (z, take-suc rows i 0 h, expand_append s (item ∷ rest) item depth (take i rows) (n ∷ []) d) (then_same run (λ x. expand_one s (item ∷ rest) item depth n x)) in
-          rw whole
-          (goes_on run (λ x. expand s (item ∷ rest) item depth x n) old_n old_e step c ns es r ns' es' (p.did s d old_n old_e item rest l) e
-          (λ q held₁.
-          next.does s (diagram_of run) old_n old_e item rest
-          (stands_steady s d (diagram_of run) old_n old_e start k c rooms l.stands steady q (subst (StillFit start rooms) e p.fits))
-          held₁ l.lower_is l.left in_start
-          (steady.depth_is n (omega (arith, l.stands.first_is)) ∙ l.deep i h)));
-    }
-
--- ---- the same, of the first `count` places of a list
-
-pub start_of : (weights profits rows : List ℕ) (start : ℕ) (k k' : Counts) (rooms : Rooms) (depth lower : ℕ) (ns es : List ℕ) → Going k ≡ Going k' → Fit start k rooms → Passed weights profits rows start k' rooms depth lower ns es 0 (Going k) ns es
-start_of weights profits rows start k k' rooms depth lower ns es e fit =
-    let q : k ≡ k' = cc in
-    subst (λ (x : Counts). Passed weights profits rows start x rooms depth lower ns es 0 (Going k) ns es) q (passed_none weights profits rows start k rooms depth lower ns es fit)
-
-pub next_of : (weights profits list : List ℕ) (count start : ℕ) (k : Counts) (rooms : Rooms) (depth lower : ℕ) (ns₀ es₀ : List ℕ) (i : ℕ) (step : Step) (ns es : List ℕ) (c : Counts) (r : Step) (ns' es' : List ℕ) → i < count → count ≤ length list → Below start (take count list) → step ≡ Going c → Passed weights profits (take count list) start k rooms depth lower ns₀ es₀ i step ns es → Expanded weights profits start c rooms depth lower (get_or list i 0) ns es r ns' es' → Passed weights profits (take count list) start k rooms depth lower ns₀ es₀ (i + 1) r ns' es'
-next_of weights profits list count start k rooms depth lower ns₀ es₀ i step ns es c r ns' es' h l low e p next =
-    passed_one weights profits (take count list) start k rooms depth lower ns₀ es₀ i step ns es c r ns' es' (simp length-take (omega arith)) low e p
-    (rw (← get_or-take count list i 0 h) at next)
-
-pub done_of : (weights profits list : List ℕ) (count start : ℕ) (k : Counts) (rooms : Rooms) (depth lower : ℕ) (ns₀ es₀ : List ℕ) (i : ℕ) (step : Step) (ns es : List ℕ) → count ≤ i → Passed weights profits (take count list) start k rooms depth lower ns₀ es₀ i step ns es → AllExpanded weights profits (take count list) start k rooms depth lower ns₀ es₀ step ns es
-done_of weights profits list count start k rooms depth lower ns₀ es₀ i step ns es h p =
-    passed_all weights profits (take count list) start k rooms depth lower ns₀ es₀ i step ns es (simp length-take (omega arith)) p
+  -- one was refused, and the rows behind it don't count
+  pub passed_stopped : (i number : ℕ) (c : Counts) (ns es : List ℕ) → Passed weights profits rows start k rooms depth lower ns₀ es₀ i (Stopped number c) ns es → AllExpanded weights profits rows start k rooms depth lower ns₀ es₀ (Stopped number c) ns es
+  passed_stopped i number c ns es p =
+      record {
+        fits = p.fits;
+        does = λ s d old_n old_e item rest l.
+            let a = stays_stopped (expand_all s (item ∷ rest) item depth (take i rows) d) (λ x. expand_all s (item ∷ rest) item depth (drop i rows) x) old_n old_e number c ns es (p.did s d old_n old_e item rest l) in
+            rw (← expand_append s (item ∷ rest) item depth (take i rows) (drop i rows) d, take-append-drop i rows) at a;
+      }

@@ -1,14 +1,14 @@
 // Rule 3 of document 01, the inner loop of `_compile` in clean.rs: a node's fast bound is noted, and it is branched on if it can beat the lower bound.
 #![tactic(auto)]
 
-ghost use Rattle.std.specs.Prelude.{◌≡◌, List, ◌<◌, ◌≤◌, length, take};
-ghost use Rattle.diagram.specs.Node.{with_fast};
-ghost use Rattle.rows.specs.Values.{node_of};
-ghost use Rattle.expand.specs.State.{Roomy, Taken, Both, Expanded, AllExpanded};
+ghost use Rattle.std.specs.Prelude.{List, ◌<◌, ◌≤◌, length};
+ghost use Rattle.branch.specs.State.{said_of, Same, Fit};
+ghost use Rattle.expand.specs.State.{Taken, Both, Expanded, AllExpanded};
 ghost use Rattle.order.specs.Below.{Below};
-ghost use Rattle.knapsack.specs.Limits.{InLimits};
 
-use branch::{Branch, Counts, Rooms, Step};
+use blocks::Items;
+use branch::{Branch, Diagram};
+use reasons::Refusal;
 use rows::{Node, NodeId};
 
 // The item that is decided: its depth, its counted weight and its profit.
@@ -20,21 +20,16 @@ struct Item {
 }
 
 // Take, if the weight fits the capacity that node n has left.
-fn branch_take(
-    nodes: &mut [u64],
-    edges: &mut [u64],
-    start: usize,
-    k: Counts,
-    rooms: Rooms,
-    n: NodeId,
-    capacity: u64,
-    i: Item,
-) -> Step
-    requires { Roomy start k rooms nodes.old edges.old × ((n.0 < start) × (i.depth < 64)) }
-    ensures { Taken start k rooms n.0 capacity i nodes.old edges.old result nodes.new edges.new }
+#[tactic(auto, using(crate::proofs::Decisions::taken))]
+fn branch_take(d: &mut Diagram, n: NodeId, capacity: u64, i: Item) -> Result<(), Refusal>
+    requires fit { Fit d.old.at.start d.old.at.counts d.old.at.rooms }
+    requires in_front { (n.0 < d.old.at.start) × (i.depth < 64) }
+    ensures same { Same d.old.nodes d.new.nodes d.old.edges d.new.edges d.old.at d.new.at }
+    ensures does { Taken d.old.at.start d.old.at.counts d.old.at.rooms n.0 capacity i d.old.nodes.now d.old.edges.now
+        (said_of result d.new.at.counts) d.new.nodes.now d.new.edges.now }
 {
     if capacity < i.weight {
-        return Step::Going(k);
+        return Ok(());
     }
     let depth = i.depth as u64;
     let b = Branch {
@@ -43,130 +38,80 @@ fn branch_take(
         capacity: capacity - i.weight,
         depth: depth + 1,
     };
-    branch::branch_on(nodes, edges, start, k, rooms, n, b)
+    d.branch_on(n, b)
 }
 
 // 'Decisions are tried take first (only if the weight fits), then skip.'
-fn branch_both(
-    nodes: &mut [u64],
-    edges: &mut [u64],
-    start: usize,
-    k: Counts,
-    rooms: Rooms,
-    n: NodeId,
-    capacity: u64,
-    i: Item,
-) -> Step
-    requires { Roomy start k rooms nodes.old edges.old × ((n.0 < start) × (i.depth < 64)) }
-    ensures { Both start k rooms n.0 capacity i nodes.old edges.old result nodes.new edges.new }
+fn branch_both(d: &mut Diagram, n: NodeId, capacity: u64, i: Item) -> Result<(), Refusal>
+    requires fit { Fit d.old.at.start d.old.at.counts d.old.at.rooms }
+    requires in_front { (n.0 < d.old.at.start) × (i.depth < 64) }
+    ensures same { Same d.old.nodes d.new.nodes d.old.edges d.new.edges d.old.at d.new.at }
+    ensures does { Both d.old.at.start d.old.at.counts d.old.at.rooms n.0 capacity i d.old.nodes.now d.old.edges.now
+        (said_of result d.new.at.counts) d.new.nodes.now d.new.edges.now }
 {
-    let step = branch_take(nodes, edges, start, k, rooms, n, capacity, i);
-    match step {
-        Step::Stopped(number, counts) => Step::Stopped(number, counts),
-        Step::Going(counts) => {
-            let depth = i.depth as u64;
-            let b = Branch {
-                decision: 2 * depth,
-                cost: 0,
-                capacity: capacity,
-                depth: depth + 1,
-            };
-            branch::branch_on(nodes, edges, start, counts, rooms, n, b)
-        }
-    }
-}
-
-fn with_fast(n: Node, fast: u64) -> Node
-    ensures { node_of result ≡ with_fast fast (node_of n) }
-{
-    let best = n.best;
-    let newest = n.newest;
-    Node {
-        capacity: n.capacity,
-        depth: n.depth,
-        value: n.value,
-        bottom: n.bottom,
-        best: best,
-        newest: newest,
-        fast: fast,
-        exact: n.exact,
-        relaxed: n.relaxed,
-        marked: n.marked,
-        cutset: n.cutset,
-        deleted: n.deleted,
-    }
+    branch_take(d, n, capacity, i)?;
+    let depth = i.depth as u64;
+    let b = Branch {
+        decision: 2 * depth,
+        cost: 0,
+        capacity,
+        depth: depth + 1,
+    };
+    d.branch_on(n, b)
 }
 
 // Node n of the newest stored layer: its fast bound is noted before any child is made, and children are made only if value plus
 // bound is strictly above the lower bound.
 fn expand_node(
-    nodes: &mut [u64],
-    edges: &mut [u64],
-    weights: &[u64],
-    profits: &[u64],
-    start: usize,
-    k: Counts,
-    rooms: Rooms,
+    d: &mut Diagram,
+    items: Items,
     depth: usize,
     lower: u64,
     n: NodeId,
-) -> Step
-    requires { Roomy start k rooms nodes.old edges.old × ((n.0 < start) × (InLimits weights.now profits.now × (depth < length weights.now))) }
-    ensures { Expanded weights.now profits.now start k rooms depth lower n.0 nodes.old edges.old result
-        nodes.new edges.new }
+) -> Result<(), Refusal>
+    requires fit { Fit d.old.at.start d.old.at.counts d.old.at.rooms }
+    requires in_front { n.0 < d.old.at.start }
+    requires deep { depth < length items.weights.now }
+    ensures same { Same d.old.nodes d.new.nodes d.old.edges d.new.edges d.old.at d.new.at }
+    ensures does { Expanded items.entry.weights.now items.entry.profits.now d.old.at.start d.old.at.counts d.old.at.rooms
+        depth lower n.0 d.old.nodes.now d.old.edges.now (said_of result d.new.at.counts) d.new.nodes.now d.new.edges.now }
 {
-    let node = rows::read_node(nodes, n);
-    let fast = blocks::fast_upper_bound(weights, profits, depth, node.capacity);
-    rows::write_node(nodes, n, with_fast(node, words::MID + fast));
+    let node = d.node(n);
+    let fast = items.fast_upper_bound(depth, node.capacity);
+    let noted = Node {
+        fast: words::MID + fast,
+        ..node
+    };
+    rows::write_node(d.nodes, n, noted);
     if words::handed(node.value, fast) <= lower {
-        return Step::Going(k);
+        return Ok(());
     }
     let i = Item {
-        depth: depth,
-        weight: blocks::counted(weights[depth]),
-        profit: profits[depth],
+        depth,
+        weight: blocks::counted(items.weights[depth]),
+        profit: items.profits[depth],
     };
-    branch_both(nodes, edges, start, k, rooms, n, node.capacity, i)
+    branch_both(d, n, node.capacity, i)
 }
 
-// The first `count` nodes of the list, in its order, until one of them is refused.
+// The nodes of the list, in its order, until one of them is refused.
+#[tactic(auto, using(order::proofs::Below::below_at))]
 pub fn expand_all(
-    nodes: &mut [u64],
-    edges: &mut [u64],
-    weights: &[u64],
-    profits: &[u64],
+    d: &mut Diagram,
+    items: Items,
     list: &[usize],
-    count: usize,
-    start: usize,
-    k: Counts,
-    rooms: Rooms,
     depth: usize,
     lower: u64,
-) -> Step
-    requires roomy { Roomy start k rooms nodes.old edges.old × (InLimits weights.now profits.now × (depth < length weights.now)) }
-    requires count_in_bounds { (count ≤ length list.now) × Below start (take count list.now) }
-    ensures { AllExpanded weights.now profits.now (take count list.now) start k rooms depth lower nodes.old
-        edges.old result nodes.new edges.new }
+) -> Result<(), Refusal>
+    requires fit { Fit d.old.at.start d.old.at.counts d.old.at.rooms }
+    requires deep { depth < length items.weights.now }
+    requires rows_in_front { Below d.old.at.start list.now }
+    ensures same { Same d.old.nodes d.new.nodes d.old.edges d.new.edges d.old.at d.new.at }
+    ensures does { AllExpanded items.entry.weights.now items.entry.profits.now list.now d.old.at.start d.old.at.counts
+        d.old.at.rooms depth lower d.old.nodes.now d.old.edges.now (said_of result d.new.at.counts) d.new.nodes.now d.new.edges.now }
 {
-    let mut step = Step::Going(k);
-    let mut i = 0;
-    while i < count {
-        let Step::Going(counts) = step else {
-            return step;
-        };
-        step = expand_node(
-            nodes,
-            edges,
-            weights,
-            profits,
-            start,
-            counts,
-            rooms,
-            depth,
-            lower,
-            NodeId(list[i]),
-        );
-        i += 1;
+    for row in list {
+        expand_node(d, items, depth, lower, NodeId(*row))?;
     }
-    step
+    Ok(())
 }

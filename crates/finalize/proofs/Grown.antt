@@ -4,6 +4,7 @@ use mathlib.Core.List.{List}
 use Prim.Native.Nat.{ℕ}
 use native.Mathlib.Omega.{arith}
 use lib.ListN.{length}
+use Rattle.std.specs.Prelude.{Option, Some, None}
 use Rattle.knapsack.specs.Items.{Item}
 use Rattle.diagram.specs.Record.{Record}
 use Rattle.diagram.specs.Run.{Settings, Run}
@@ -11,8 +12,7 @@ use Rattle.diagram.specs.Tables.{LastExact, Diagram}
 use Rattle.diagram.specs.Rule2.{grown}
 use Rattle.branch.specs.declared.Counts.{Counts}
 use Rattle.layers.specs.declared.Layers.{Layers}
-use Rattle.layers.specs.declared.Last.{Last}
-use Rattle.layers.specs.declared.Last.TheVariants.{Unsquashed, After}
+use Rattle.layers.specs.declared.Layer.{Layer}
 use Rattle.layers.specs.Stored.{last_of}
 use Rattle.theorems.proofs.Holds.{Holds, held_inv}
 use Rattle.theorems.proofs.Links.{grown_wired}
@@ -25,14 +25,14 @@ use Rattle.finalize.specs.Given.{Grown}
 use Rattle.finalize.specs.Standing.{Standing}
 use Rattle.finalize.proofs.LastLayer.{LastEnds, grown_ending}
 
-last_within : (n : ℕ) (s : Last) (l : LastExact) → last_of s ≡ l → LastEnds l n → LastIn n s
+last_within : (n : ℕ) (s : Option Layer) (l : LastExact) → last_of s ≡ l → LastEnds l n → LastIn n s
 last_within n s l e h = go s (subst (λ (x : LastExact). LastEnds x n) (sym e) h)
   where
-    go : (s : Last) → LastEnds (last_of s) n → LastIn n s
-    go Unsquashed h = tt
-    go (After from to) h = h
+    go : (s : Option Layer) → LastEnds (last_of s) n → LastIn n s
+    go None h = tt
+    go (Some l) h = h
 
-module _ (s : Settings) (items : List Item) (r : Record) (d : Diagram) (old_n old_e : List ℕ) (k : Counts) (start : ℕ) (layers : Layers) (last : Last) (given : Given) (ns es rs : List ℕ) (g : Grown s items r d old_n old_e k start layers last given ns es rs) where
+module _ (s : Settings) (items : List Item) (r : Record) (d : Diagram) (old_n old_e : List ℕ) (k : Counts) (start : ℕ) (layers : Layers) (last : Option Layer) (given : Given) (ns es rs : List ℕ) (g : Grown s items r d old_n old_e k start layers last given ns es rs) where
   -- what holds of every run that is not refused
   of_grown : (P : Diagram → Type 0) → Holds P (grown s items r) → P d
   of_grown P h = held_inv (subst (λ (x : Run). Holds P x) g.grown_is h)
@@ -57,6 +57,4 @@ module _ (s : Settings) (items : List Item) (r : Record) (d : Diagram) (old_n ol
         layers_are = g.layers_are;
         last_is = g.last_is;
         last_in = last_within (length d.nodes) last d.last g.last_is (of_grown _ (grown_ending items s r)).last_ends;
-        sized = g.sized;
-        few_layers = g.few_layers;
       }

@@ -5,6 +5,7 @@ use mathlib.Core.List.{List, [], ◌∷◌}
 use Prim.Native.Nat.{ℕ, ◌≤◌}
 use native.Mathlib.Omega.{arith}
 use lib.ListN.{length}
+use Rattle.std.specs.Prelude.{Option, Result}
 use Rattle.diagram.specs.Record.{Record}
 use Rattle.diagram.specs.Node.{Node}
 use Rattle.diagram.specs.Run.{Mode, exactly, restricted, relaxing, is_relaxing}
@@ -19,10 +20,10 @@ use Rattle.layout.specs.Records.{record_table}
 use Rattle.layout.proofs.Records.{over_none}
 use Rattle.branch.specs.State.{counts_of}
 use Rattle.layers.specs.declared.Layers.{Layers}
-use Rattle.layers.specs.declared.Last.{Last}
+use Rattle.layers.specs.declared.Layer.{Layer}
 use Rattle.layers.specs.Stored.{stored, last_of}
 use Rattle.theorems.proofs.Local.{bounds_dressed}
-use Rattle.finish.specs.declared.Best.{Best}
+use Rattle.rows.specs.declared.NodeId.{NodeId}
 use Rattle.finish.specs.Terminals.{row_of, Within}
 use Rattle.finish.specs.Sits.{Sits}
 use Rattle.finish.specs.Bounds as Steps
@@ -31,7 +32,6 @@ use Rattle.finish.proofs.Depths.{deep_dressed, path_room}
 use Rattle.finish.proofs.Grown.{Ends, ranged_of}
 use Rattle.finish.proofs.Rewriting.{nodes_within, edges_within}
 use Rattle.cutset.specs.declared.Kind.{Kind}
-use Rattle.cutset.specs.declared.Drained.{Drained}
 use Rattle.cutset.specs.Trace.{Ranged}
 use Rattle.cutset.specs.Whole.{kind_of, LastIn, Shaped, Bounded, answer, fitting}
 use Rattle.cutset.proofs.Asked.{clear_rows, clear_bounded}
@@ -55,7 +55,7 @@ ranged_from : (ls : List Range) (n : ℕ) → Ends ls n → Ranged n ls
 ranged_from [] n e = tt
 ranged_from (l ∷ ls) n e = (e.0, ranged_from ls n e.1)
 
-module _ (d : Diagram) (old_n old_e : List ℕ) (count : ℕ) (given : Given) (layers : Layers) (last : Last) (ns es rs : List ℕ) (st : Standing d old_n old_e count given layers last ns es rs) where
+module _ (d : Diagram) (old_n old_e : List ℕ) (count : ℕ) (given : Given) (layers : Layers) (last : Option Layer) (ns es rs : List ℕ) (st : Standing d old_n old_e count given layers last ns es rs) where
   -- what the steps after the last layer ask of the tables
   abbrev pub sits_of : Sits (counts_of d) ns es
   sits_of =
@@ -76,7 +76,7 @@ module _ (d : Diagram) (old_n old_e : List ℕ) (count : ℕ) (given : Given) (l
   ranged = ranged_of layers d st.usable st.layers_are
 
   bounds_asked : Layered ns es layers
-  bounds_asked = record { counts = counts_of d; sits = sits_of; ranged = ranged; sized = st.sized; few = st.few_layers }
+  bounds_asked = record { counts = counts_of d; sits = sits_of; ranged = ranged }
 
   module _ (m : Mode) (us : List ℕ) (w : Rewritten sits_of (local_bounds m d d.nodes) us) where
     shaped : Shaped layers last (bounded m d) (no_cutset (bounded m d))
@@ -121,16 +121,16 @@ module _ (d : Diagram) (old_n old_e : List ℕ) (count : ℕ) (given : Given) (l
     after_bounds : (m : Mode) → relaxed ≡ is_relaxing m → Bounded (wanted given 0) layers last (bounded m d) old_n old_e count us es rs
     after_bounds m q = bounded_stands m us (bounds_done m q)
 
-    cut_asked : (best : Best) → Within 0 count best → Cuttable count best given layers last us es rs
+    cut_asked : (best : Option NodeId) → Within 0 count best → Cuttable count best given layers last us es rs
     cut_asked best i =
         record {
-          drainable = record { diagram = bounded (mode_for relaxed) d; old_n = old_n; old_e = old_e; bounded = after_bounds (mode_for relaxed) (mode_for_lem relaxed); sized = st.sized; layers_in = st.few_layers };
+          drainable = record { diagram = bounded (mode_for relaxed) d; old_n = old_n; old_e = old_e; bounded = after_bounds (mode_for relaxed) (mode_for_lem relaxed) };
           inside = i;
         }
 
     -- ---- the rows of a finished run
 
-    module _ (best : Best) (kind : Kind) (r : Drained) (ns' rs' : List ℕ) (c : CutsetDone count best given layers kind last relaxed us es rs r ns' rs') where
+    module _ (best : Option NodeId) (kind : Kind) (r : Result ℕ ℕ) (ns' rs' : List ℕ) (c : CutsetDone count best given layers kind last relaxed us es rs r ns' rs') where
       idle_rows : (m : Mode) → relaxed ≡ is_relaxing m → relaxed ≡ false → local_bounds m d d.nodes ≡ (outcome m (kind_of kind) d).diagram.nodes → drained (path_before given) (outcome m (kind_of kind) d) ≡ [] → RowsOf (outcome m (kind_of kind) d) (path_before given) given.room old_n rs r ns' rs'
       idle_rows m q z e x =
           let i = c.idle z in
@@ -161,13 +161,13 @@ module _ (d : Diagram) (old_n old_e : List ℕ) (count : ℕ) (given : Given) (l
 
 -- ---- of some diagram
 
-pub some_bounds_asked : (count : ℕ) (best : Best) (given : Given) (layers : Layers) (last : Last) (ns es rs : List ℕ) → Standable count best given layers last ns es rs → Layered ns es layers
+pub some_bounds_asked : (count : ℕ) (best : Option NodeId) (given : Given) (layers : Layers) (last : Option Layer) (ns es rs : List ℕ) → Standable count best given layers last ns es rs → Layered ns es layers
 some_bounds_asked count best given layers last ns es rs x = bounds_asked x.diagram x.old_n x.old_e count given layers last ns es rs x.standing
 
-pub some_cut_asked : (count : ℕ) (best : Best) (given : Given) (layers : Layers) (last : Last) (ns es rs : List ℕ) (squashed relaxed : Bool) (us : List ℕ) → Standable count best given layers last ns es rs → squashed ≡ was_squashed (last_of last) → BoundsComputed layers squashed relaxed ns es us → Cuttable count best given layers last us es rs
+pub some_cut_asked : (count : ℕ) (best : Option NodeId) (given : Given) (layers : Layers) (last : Option Layer) (ns es rs : List ℕ) (squashed relaxed : Bool) (us : List ℕ) → Standable count best given layers last ns es rs → squashed ≡ was_squashed (last_of last) → BoundsComputed layers squashed relaxed ns es us → Cuttable count best given layers last us es rs
 some_cut_asked count best given layers last ns es rs squashed relaxed us x s b =
     cut_asked x.diagram x.old_n x.old_e count given layers last ns es rs x.standing squashed relaxed us s b best x.inside
 
-pub rows_finished : (count : ℕ) (best : Best) (given : Given) (layers : Layers) (kind : Kind) (last : Last) (ns es rs : List ℕ) (squashed relaxed : Bool) (us : List ℕ) (r : Drained) (ns' rs' : List ℕ) → squashed ≡ was_squashed (last_of last) → BoundsComputed layers squashed relaxed ns es us → CutsetDone count best given layers kind last relaxed us es rs r ns' rs' → RowsFinished count best given layers kind last relaxed ns es rs r ns' rs'
+pub rows_finished : (count : ℕ) (best : Option NodeId) (given : Given) (layers : Layers) (kind : Kind) (last : Option Layer) (ns es rs : List ℕ) (squashed relaxed : Bool) (us : List ℕ) (r : Result ℕ ℕ) (ns' rs' : List ℕ) → squashed ≡ was_squashed (last_of last) → BoundsComputed layers squashed relaxed ns es us → CutsetDone count best given layers kind last relaxed us es rs r ns' rs' → RowsFinished count best given layers kind last relaxed ns es rs r ns' rs'
 rows_finished count best given layers kind last ns es rs squashed relaxed us r ns' rs' s b c =
     record { does = λ d old_n old_e m st q e. rows_done d old_n old_e count given layers last ns es rs st squashed relaxed us s b best kind r ns' rs' c m q e }

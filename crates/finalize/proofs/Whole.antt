@@ -5,6 +5,7 @@ use mathlib.Core.List.{List}
 use Prim.Native.Nat.{ℕ, ◌<◌, ◌≤◌}
 use native.Mathlib.Omega.{arith}
 use lib.ListN.{length}
+use Rattle.std.specs.Prelude.{Option, Result}
 use Rattle.knapsack.specs.Items.{Item}
 use Rattle.diagram.specs.Record.{Record}
 use Rattle.diagram.specs.Node.{Edge, edge_at}
@@ -20,14 +21,13 @@ use Rattle.calls.specs.Compile.{value_of, path_of}
 use Rattle.branch.specs.declared.Counts.{Counts}
 use Rattle.branch.specs.State.{counts_of}
 use Rattle.layers.specs.declared.Layers.{Layers}
-use Rattle.layers.specs.declared.Last.{Last}
-use Rattle.finish.specs.declared.Best.{Best}
+use Rattle.layers.specs.declared.Layer.{Layer}
+use Rattle.rows.specs.declared.NodeId.{NodeId}
 use Rattle.finish.specs.Terminals.{row_of, Within}
 use Rattle.finish.specs.Sits.{Sits}
 use Rattle.finish.proofs.Depths.{deep_dressed, path_room}
 use Rattle.finish.proofs.Rewriting.{nodes_within, edges_within}
 use Rattle.cutset.specs.declared.Kind.{Kind}
-use Rattle.cutset.specs.declared.Drained.{Drained}
 use Rattle.cutset.specs.Whole.{kind_of}
 use Rattle.finish.proofs.Terminals.{within_wider}
 use Rattle.finalize.specs.declared.Given.{Given}
@@ -49,7 +49,7 @@ outcome_is m k d = (refl, (refl, (refl, (refl, refl))))
 
 -- ---- the finished tables
 
-module _ (d : Diagram) (old_n old_e : List ℕ) (count : ℕ) (given : Given) (layers : Layers) (last : Last) (ns es rs : List ℕ) (st : Standing d old_n old_e count given layers last ns es rs) (m : Mode) (kind : Kind) (ns' : List ℕ) (x : ns' ≡ over (node_table (outcome m (kind_of kind) d).diagram.nodes) old_n) where
+module _ (d : Diagram) (old_n old_e : List ℕ) (count : ℕ) (given : Given) (layers : Layers) (last : Option Layer) (ns es rs : List ℕ) (st : Standing d old_n old_e count given layers last ns es rs) (m : Mode) (kind : Kind) (ns' : List ℕ) (x : ns' ≡ over (node_table (outcome m (kind_of kind) d).diagram.nodes) old_n) where
   abbrev o : Diagram
   o = (outcome m (kind_of kind) d).diagram
 
@@ -87,16 +87,16 @@ module _ (d : Diagram) (old_n old_e : List ℕ) (count : ℕ) (given : Given) (l
       path_room given.depth 64 o (outcome_wired m (kind_of kind) d st.usable.start_in st.wired) (deep_dressed given.depth 64 d.nodes o.nodes (outcome_dressed m (kind_of kind) d) st.deep) start_in (path_before given) y st.path_long h
 
   -- a row that was found before is one of its rows
-  still_in : (start : ℕ) (b : Best) → Within start count b → Within 0 (length o.nodes) b
+  still_in : (start : ℕ) (b : Option NodeId) → Within start count b → Within 0 (length o.nodes) b
   still_in start b w = within_wider start count 0 (length o.nodes) b (omega arith) (omega (arith, rows_long, st.count_is)) w
 
-  walkable : (start : ℕ) (b : Best) → Within start count b → Walkable b given ns' es
+  walkable : (start : ℕ) (b : Option NodeId) → Within start count b → Walkable b given ns' es
   walkable start b w =
       record { counts = counts_of o; sits = finished_sits; inside = still_in start b w; roomy = finished_roomy; depth_in = st.depth_in }
 
 -- ---- the calls
 
-module _ (k : Counts) (start : ℕ) (layers : Layers) (last : Last) (given : Given) (ns es rs : List ℕ) where
+module _ (k : Counts) (start : ℕ) (layers : Layers) (last : Option Layer) (given : Given) (ns es rs : List ℕ) where
   pub judge_asked : Finalizable k start layers last given ns es rs → Judgeable start k.nodes ns es
   judge_asked x =
       let st = stands x.settings x.items x.compiled x.diagram x.old_n x.old_e k start layers last given ns es rs x.grown in
@@ -117,7 +117,7 @@ module _ (k : Counts) (start : ℕ) (layers : Layers) (last : Last) (given : Giv
         inside = within_wider start k.nodes 0 k.nodes j.best (omega arith) (omega arith) h.best_in;
       }
 
-  module _ (relaxed : Bool) (kind : Kind) (j : Judged) (r : Drained) (ns' rs' : List ℕ) (h : Judges start k.nodes last relaxed ns es j) (f : RowsFinished k.nodes j.best given layers kind last relaxed ns es rs r ns' rs') where
+  module _ (relaxed : Bool) (kind : Kind) (j : Judged) (r : Result ℕ ℕ) (ns' rs' : List ℕ) (h : Judges start k.nodes last relaxed ns es j) (f : RowsFinished k.nodes j.best given layers kind last relaxed ns es rs r ns' rs') where
     -- in a mode of the run, and over the diagram that the tables hold
     module _ (s : Settings) (items : List Item) (c : Record) (d : Diagram) (old_n old_e : List ℕ) (g : Grown s items c d old_n old_e k start layers last given ns es rs) (m : Mode) (q : relaxed ≡ is_relaxing m) where
       standing : Standing d old_n old_e k.nodes given layers last ns es rs

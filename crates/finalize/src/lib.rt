@@ -3,8 +3,7 @@
 
 ghost use Rattle.std.specs.Prelude.{◌≡◌, ◌*◌, ◌≤◌, length};
 ghost use Rattle.layout.specs.Rows.{node_words};
-ghost use Rattle.layers.specs.Stored.{last_of};
-ghost use Rattle.finish.specs.Bounds.{was_squashed};
+ghost use Rattle.reasons.specs.Numbers.{numbered};
 ghost use Rattle.finish.specs.Terminals.{Readable};
 ghost use Rattle.finalize.specs.Given.{Finalizable};
 ghost use Rattle.finalize.specs.Judged.{BestExactFound, Judgeable, Judges};
@@ -13,29 +12,25 @@ ghost use Rattle.finalize.specs.Answers.{ValueTold, Walkable, PathTold, Answerab
 ghost use Rattle.finalize.specs.Ended.{Finalized};
 
 use branch::Counts;
-use cutset::{Drained, Kind, Wanted};
-use finish::Best;
-use layers::{Last, Layers};
+use cutset::{Kind, Route, Wanted};
+use layers::{Layer, Layers};
+use reasons::Refusal;
+use rows::NodeId;
 
-// The value of a best node, or none.
-#[derive(Clone, Copy)]
-pub enum Value {
-    Is(i64),
-    Missing,
-}
-
-// What a finished run answers. A path without a value is all 0.
+// What a finished run answers, with how many records were drained, or that the list has no places for them. A path without
+// a value is all 0, as the definition of an answer (`path_of`) has it.
 #[derive(Clone, Copy)]
 pub struct Finished {
     pub exact: bool,
-    pub best: Value,
+    pub best: Option<i64>,
     pub path: [u8; 64],
-    pub best_exact: Value,
+    pub best_exact: Option<i64>,
     pub exact_path: [u8; 64],
-    pub drained: Drained,
+    pub drained: Result<usize, Refusal>,
 }
 
-// The record that was compiled, as far as its run's end needs it: its path with its length; and how many records the list has room for.
+// The record that was compiled, as far as its run's end needs it: its path, of which `depth` places count, since memory is fixed;
+// and how many records the list has room for.
 #[derive(Clone, Copy)]
 pub struct Given {
     pub path: [u8; 64],
@@ -43,25 +38,33 @@ pub struct Given {
     pub room: usize,
 }
 
+// A grown run, as far as its rows' end needs it: how many rows it has, the record that was compiled, whether it is relaxed, and which
+// rows its cutset goes through.
+#[derive(Clone, Copy)]
+struct Run {
+    count: usize,
+    given: Given,
+    relaxed: bool,
+    route: Route,
+}
+
 // What is known of a run before its rows are finished: whether it is exact, its best node and its best exact node.
 #[derive(Clone, Copy)]
 struct Judged {
     exact: bool,
-    best: Best,
-    best_exact: Best,
-}
-
-fn was_squashed(last: Last) -> bool
-    ensures { result ≡ was_squashed (last_of last) }
-{
-    let Last::After(_, _) = last else {
-        return false;
-    };
-    true
+    best: Option<NodeId>,
+    best_exact: Option<NodeId>,
 }
 
 // Where the walk up the best path succeeded the best exact node is the best node; else it is the best of the exact terminals.
-fn best_exact_node(nodes: &[u64], start: usize, count: usize, best: Best, walked: bool) -> Best
+#[tactic(auto, using(crate::proofs::Verdict::best_exact))]
+fn best_exact_node(
+    nodes: &[u64],
+    start: usize,
+    count: usize,
+    best: Option<NodeId>,
+    walked: bool,
+) -> Option<NodeId>
     requires { (start ≤ count) × (count * node_words ≤ length nodes.now) }
     ensures { BestExactFound nodes.now start count best walked result }
 {
@@ -77,7 +80,7 @@ fn judge(
     edges: &[u64],
     start: usize,
     count: usize,
-    last: Last,
+    last: Option<Layer>,
     relaxed: bool,
 ) -> Judged
     requires { Judgeable start count nodes.now edges.now }
@@ -86,123 +89,120 @@ fn judge(
     let best = finish::find_best_node(nodes, start, count, false);
     let walked = finish::exact_path(nodes, edges, best, relaxed);
     let best_exact = best_exact_node(nodes, start, count, best, walked);
-    let squashed = was_squashed(last);
     Judged {
-        exact: words::either(!squashed, walked),
-        best: best,
-        best_exact: best_exact,
+        exact: last.is_none() || walked,
+        best,
+        best_exact,
     }
 }
 
 // `_finalize_cutset` of clean.rs, then `_drain_cutset`: only relaxed diagrams have a cutset, and only with a best value it is drained.
+#[tactic(auto, using(crate::proofs::Cut::cut))]
 fn finalize_cutset(
     nodes: &mut [u64],
     edges: &[u64],
     records: &mut [u64],
-    count: usize,
-    best: Best,
-    given: Given,
-    layers: Layers,
-    kind: Kind,
-    last: Last,
-    relaxed: bool,
-) -> Drained
-    requires { Cuttable count best given layers last nodes.old edges.now records.old }
-    ensures { CutsetDone count best given layers kind last relaxed nodes.old edges.now records.old result nodes.new
-        records.new }
+    best: Option<NodeId>,
+    run: Run,
+) -> Result<usize, Refusal>
+    requires { Cuttable run.count best run.given run.route.layers run.route.last nodes.old edges.now records.old }
+    ensures { CutsetDone run.count best run.given run.route.layers run.route.kind run.route.last run.relaxed nodes.old
+        edges.now records.old (numbered result) nodes.new records.new }
 {
-    if !relaxed {
-        return Drained::Records(0);
+    if !run.relaxed {
+        return Ok(0);
     }
-    let path = given.path;
-    let Best::Node(b) = best else {
+    let Given { path, depth, room } = run.given;
+    let Some(b) = best else {
         let w = Wanted {
             room: 0,
             best: 0,
-            path: path,
-            depth: given.depth,
+            path,
+            depth,
         };
-        cutset::flag_cutset(nodes, edges, records, w, layers, kind, last);
-        return Drained::Records(0);
+        cutset::flag_cutset(nodes, edges, records, w, run.route);
+        return Ok(0);
     };
-    let value = rows::read_value(nodes, b);
     let w = Wanted {
-        room: given.room,
-        best: value,
-        path: path,
-        depth: given.depth,
+        room,
+        best: rows::read_value(nodes, b),
+        path,
+        depth,
     };
-    cutset::drain(nodes, edges, records, count, w, layers, kind, last)
+    cutset::drain(nodes, edges, records, run.count, w, run.route)
 }
 
 // Local bounds, then the cutset: marks, bottom values and flags are in the rows, and the drained records in the list.
+#[tactic(auto, using(crate::proofs::Standing::rows_finished))]
 fn finish_rows(
     nodes: &mut [u64],
     edges: &[u64],
     records: &mut [u64],
-    count: usize,
-    best: Best,
-    given: Given,
-    layers: Layers,
-    kind: Kind,
-    last: Last,
-    relaxed: bool,
-) -> Drained
-    requires { Standable count best given layers last nodes.old edges.now records.old }
-    ensures { RowsFinished count best given layers kind last relaxed nodes.old edges.now records.old result nodes.new
-        records.new }
+    best: Option<NodeId>,
+    run: Run,
+) -> Result<usize, Refusal>
+    requires { Standable run.count best run.given run.route.layers run.route.last nodes.old edges.now records.old }
+    ensures { RowsFinished run.count best run.given run.route.layers run.route.kind run.route.last run.relaxed nodes.old
+        edges.now records.old (numbered result) nodes.new records.new }
 {
-    let squashed = was_squashed(last);
-    finish::compute_local_bounds(nodes, edges, layers, squashed, relaxed);
-    finalize_cutset(
-        nodes, edges, records, count, best, given, layers, kind, last, relaxed,
-    )
+    finish::compute_local_bounds(
+        nodes,
+        edges,
+        run.route.layers,
+        run.route.last.is_some(),
+        run.relaxed,
+    );
+    finalize_cutset(nodes, edges, records, best, run)
 }
 
 // The value that is answered for a best node.
-fn value_of(nodes: &[u64], best: Best) -> Value
+#[tactic(auto, using(crate::proofs::Told::values))]
+fn value_of(nodes: &[u64], best: Option<NodeId>) -> Option<i64>
     requires { Readable (length nodes.now) best }
     ensures { ValueTold nodes.now best result }
 {
-    let Best::Node(n) = best else {
-        return Value::Missing;
+    let Some(n) = best else {
+        return None;
     };
-    Value::Is(words::number(rows::read_value(nodes, n)))
+    Some(words::number(rows::read_value(nodes, n)))
 }
 
 // The path that is answered for a best node.
-fn path_of(nodes: &[u64], edges: &[u64], best: Best, given: Given) -> [u8; 64]
+#[tactic(auto, using(crate::proofs::Told::paths))]
+fn path_of(nodes: &[u64], edges: &[u64], best: Option<NodeId>, given: Given) -> [u8; 64]
     requires { Walkable best given nodes.now edges.now }
     ensures { PathTold best given nodes.now edges.now result }
 {
-    let Best::Node(n) = best else {
-        return [0u8; 64];
+    let Some(n) = best else {
+        return [0; 64];
     };
-    let path = given.path;
-    let found = finish::best_path(nodes, edges, n, path, given.depth);
-    found.bytes
+    finish::best_path(nodes, edges, n, given.path, given.depth).bytes
 }
 
 // The answer, read from the finished tables.
-fn answers(nodes: &[u64], edges: &[u64], judged: Judged, given: Given, drained: Drained) -> Finished
+#[tactic(auto, using(crate::proofs::Told::value_asked))]
+fn answers(
+    nodes: &[u64],
+    edges: &[u64],
+    judged: Judged,
+    given: Given,
+    drained: Result<usize, Refusal>,
+) -> Finished
     requires { Answerable judged given nodes.now edges.now }
-    ensures { Answered judged given drained nodes.now edges.now result }
+    ensures { Answered judged given (numbered drained) nodes.now edges.now result }
 {
-    let best = judged.best;
-    let best_exact = judged.best_exact;
-    let path = path_of(nodes, edges, best, given);
-    let exact_path = path_of(nodes, edges, best_exact, given);
     Finished {
         exact: judged.exact,
-        best: value_of(nodes, best),
-        path: path,
-        best_exact: value_of(nodes, best_exact),
-        exact_path: exact_path,
-        drained: drained,
+        best: value_of(nodes, judged.best),
+        path: path_of(nodes, edges, judged.best, given),
+        best_exact: value_of(nodes, judged.best_exact),
+        exact_path: path_of(nodes, edges, judged.best_exact, given),
+        drained,
     }
 }
 
-// Everything after the last layer.
+// Everything after the last layer. It takes the parts of what `grow` answers one by one, since it leans on nothing of `grow`.
+#[tactic(auto, using(crate::proofs::Whole::finalized))]
 pub fn finalize(
     nodes: &mut [u64],
     edges: &[u64],
@@ -210,7 +210,7 @@ pub fn finalize(
     k: Counts,
     start: usize,
     layers: Layers,
-    last: Last,
+    last: Option<Layer>,
     relaxed: bool,
     kind: Kind,
     given: Given,
@@ -220,9 +220,12 @@ pub fn finalize(
         records.new }
 {
     let judged = judge(nodes, edges, start, k.nodes, last, relaxed);
-    let best = judged.best;
-    let drained = finish_rows(
-        nodes, edges, records, k.nodes, best, given, layers, kind, last, relaxed,
-    );
+    let run = Run {
+        count: k.nodes,
+        given,
+        relaxed,
+        route: Route { layers, last, kind },
+    };
+    let drained = finish_rows(nodes, edges, records, judged.best, run);
     answers(nodes, edges, judged, given, drained)
 }

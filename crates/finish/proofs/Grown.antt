@@ -17,7 +17,9 @@ use Rattle.diagram.specs.Rule3.{branch_take, branch_both, note_fast, expand, exp
 use Rattle.diagram.specs.Rule4.{push_edge, add_edge, push_node, child_of, new_child, branch_to, branch_on}
 use Rattle.diagram.specs.Rule5.{with_last, squash}
 use Rattle.diagram.specs.Rule6.{Squashed, delete_all, restrict, copy_edges, merge_all, squashed, keep_first, merge_into, merge, relax}
+use Rattle.layers.specs.declared.Layer.{Layer}
 use Rattle.layers.specs.declared.Layers.{Layers}
+use Rattle.layers.specs.Layer.{no_layer}
 use Rattle.layers.specs.Stored.{first_ones, stored}
 use Rattle.theorems.proofs.Holds.{Holds, held, void, then_holds, need_holds, only_holds, SquashHolds, settled, halts, squash_need_holds, squash_if_holds}
 use Rattle.finish.specs.Bounds.{Ranged}
@@ -180,14 +182,14 @@ grown_usable opts items r h =
 
 -- ---- the stored layers, as the code holds them
 
-ranged_in : (from to : List ℕ) (c n : ℕ) → Ends (first_ones from to c) n → (i : ℕ) → i < c → get_or to i 0 ≤ n
+ranged_in : (rows : List Layer) (c n : ℕ) → Ends (first_ones rows c) n → (i : ℕ) → i < c → (get_or rows i no_layer).to ≤ n
 unfolding first_ones
-ranged_in from to zero n e i h = absurd (omega arith)
-ranged_in from to (suc c) n e i h = elim (ℕ_discrete i c) [
-  | yes q ↦ subst (λ (j : ℕ). get_or to j 0 ≤ n) (sym q) e.0
-  | no q ↦ ranged_in from to c n e.1 i (omega arith)
+ranged_in rows zero n e i h = absurd (omega arith)
+ranged_in rows (suc c) n e i h = elim (ℕ_discrete i c) [
+  | yes q ↦ subst (λ (j : ℕ). (get_or rows j no_layer).to ≤ n) (sym q) e.0
+  | no q ↦ ranged_in rows c n e.1 i (omega arith)
 ]
 
 pub ranged_of : (l : Layers) (d : Diagram) → Usable d → stored l ≡ d.layers → Ranged l (length d.nodes)
 unfolding stored
-ranged_of l d u q = record { ends = ranged_in l.from l.to l.count (length d.nodes) (subst (λ (ls : List Range). Ends ls (length d.nodes)) (sym q) u.ends) }
+ranged_of l d u q = record { ends = ranged_in l.rows l.count (length d.nodes) (subst (λ (ls : List Range). Ends ls (length d.nodes)) (sym q) u.ends) }

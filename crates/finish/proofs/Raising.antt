@@ -2,7 +2,7 @@
 use mathlib.Core.Path.{◌≡◌, refl, sym, ap, subst, ◌∙◌}
 use mathlib.Core.Bool.{Bool, true, false, cond}
 use mathlib.Core.List.{List, []}
-use Prim.Native.Nat.{ℕ, suc, ◌+◌, ◌-◌, ◌*◌, ◌<◌, ◌≤◌}
+use Prim.Native.Nat.{ℕ, suc, ◌+◌, ◌*◌, ◌<◌, ◌≤◌}
 use native.Mathlib.Omega.{arith}
 use lib.ListN.{length}
 use Rattle.words.specs.I64.{mid, sat_add}
@@ -41,52 +41,52 @@ raise_none own first ns es =
     }
 
 -- the edge at a link
-pub record AtLink {k : Counts} {ns es : List ℕ} (h : Sits k ns es) (own r link : ℕ) (us : List ℕ) (e : Edge) (left : Left h own r link us) : Type 0 where
-  pub newest : NewestIs left.edges h.diagram.edges r (link - 1)
-  pub edge_in : link - 1 < length h.diagram.edges
-  pub edge_is : e ≡ edge_at h.diagram.edges (link - 1)
+pub record AtLink {k : Counts} {ns es : List ℕ} (h : Sits k ns es) (own r link i : ℕ) (us : List ℕ) (e : Edge) (left : Left h own r link us) : Type 0 where
+  pub newest : NewestIs left.edges h.diagram.edges r i
+  pub edge_in : i < length h.diagram.edges
+  pub edge_is : e ≡ edge_at h.diagram.edges i
   pub from_in : e.from < length left.rows
-  pub next_is : e.next ≡ newest_below (link - 1) h.diagram.edges r
+  pub next_is : e.next ≡ newest_below i h.diagram.edges r
 
-link_edge : {k : Counts} {ns es : List ℕ} (h : Sits k ns es) (own r link : ℕ) (us : List ℕ) (left : Left h own r link us) → 0 < link → NewestIs left.edges h.diagram.edges r (link - 1)
-link_edge h own r link us left z =
-    let q : newest_below left.edges h.diagram.edges r ≡ suc (link - 1) = omega (arith, left.link_is) in
-    newest_found left.edges h.diagram.edges r (link - 1) q
+link_edge : {k : Counts} {ns es : List ℕ} (h : Sits k ns es) (own r link i : ℕ) (us : List ℕ) (left : Left h own r link us) → link ≡ i + 1 → NewestIs left.edges h.diagram.edges r i
+link_edge h own r link i us left z =
+    let q : newest_below left.edges h.diagram.edges r ≡ suc i = omega (arith, left.link_is) in
+    newest_found left.edges h.diagram.edges r i q
 
-at_link : {k : Counts} {ns es : List ℕ} (h : Sits k ns es) (own r link : ℕ) (us : List ℕ) (e : Edge) (left : Left h own r link us) → 0 < link → EdgeRead es (link - 1) e → AtLink h own r link us e left
-at_link h own r link us e left z read =
-    let n = link_edge h own r link us left z in
-    let i : link - 1 < length h.diagram.edges = omega (arith, n.below, left.within) in
-    let x = edge_is h (link - 1) e read i in
-    let a = h.wired.arrows (link - 1) i in
-    let f : e.from ≡ (edge_at h.diagram.edges (link - 1)).from = ap (λ (y : Edge). y.from) x in
+at_link : {k : Counts} {ns es : List ℕ} (h : Sits k ns es) (own r link i : ℕ) (us : List ℕ) (e : Edge) (left : Left h own r link us) → link ≡ i + 1 → EdgeRead es i e → AtLink h own r link i us e left
+at_link h own r link i us e left z read =
+    let n = link_edge h own r link i us left z in
+    let l : i < length h.diagram.edges = omega (arith, n.below, left.within) in
+    let x = edge_is h i e read l in
+    let a = h.wired.arrows i l in
+    let f : e.from ≡ (edge_at h.diagram.edges i).from = ap (λ (y : Edge). y.from) x in
     record {
       newest = n;
-      edge_in = i;
+      edge_in = l;
       edge_is = x;
       from_in = omega (arith, a.from_in, h.start_in, left.written.long);
-      next_is = ap (λ (y : Edge). y.next) x ∙ h.wired.link (link - 1) i ∙ ap (newest_below (link - 1) h.diagram.edges) n.ends;
+      next_is = ap (λ (y : Edge). y.next) x ∙ h.wired.link i l ∙ ap (newest_below i h.diagram.edges) n.ends;
     }
 
 -- one parent more
-pub raise_one : (own first : ℕ) (ns es : List ℕ) (link : ℕ) (us vs : List ℕ) (e : Edge) (b : ℕ) → 0 < link → EdgeRead es (link - 1) e → b ≡ sat_add own (mid + e.cost) → RowChanged (raise b) e.from us vs → Raising own first ns es link us → Raising own first ns es e.next vs
+pub raise_one : (own first : ℕ) (ns es : List ℕ) (link i : ℕ) (us vs : List ℕ) (e : Edge) (b : ℕ) → link ≡ i + 1 → EdgeRead es i e → b ≡ sat_add own (mid + e.cost) → RowChanged (raise b) e.from us vs → Raising own first ns es link us → Raising own first ns es e.next vs
 unfolding raise_parents
-raise_one own first ns es link us vs e b z read q c g =
+raise_one own first ns es link i us vs e b z read q c g =
     record {
       does = λ k h r l f.
           let left = g.does k h r l f in
-          let a = at_link h own r link us e left z read in
+          let a = at_link h own r link i us e left z read in
           let E = h.diagram.edges in
           let w : Rewritten h (update (raise b) left.rows e.from) vs = row_written h left.rows us vs (raise b) e.from (raise_links b) a.from_in left.written c in
           record {
             rows = update (raise b) left.rows e.from;
-            edges = link - 1;
+            edges = i;
             within = omega (arith, a.edge_in);
             link_is = a.next_is;
             written = w;
             rest =
-                ap (λ (v : ℕ). raise_parents E own (inbound_below (link - 1) E r) (update (raise v) left.rows e.from)) q
-                ∙ ap (λ (y : Edge). raise_parents E own (inbound_below (link - 1) E r) (update (raise (sat_add own (mid + y.cost))) left.rows y.from)) a.edge_is
+                ap (λ (v : ℕ). raise_parents E own (inbound_below i E r) (update (raise v) left.rows e.from)) q
+                ∙ ap (λ (y : Edge). raise_parents E own (inbound_below i E r) (update (raise (sat_add own (mid + y.cost))) left.rows y.from)) a.edge_is
                 ∙ ap (λ (l : List ℕ). raise_parents E own l left.rows) (sym a.newest.splits)
                 ∙ left.rest;
           };
@@ -105,25 +105,25 @@ raise_all own first ns es link us z g =
     }
 
 -- what a turn asks: the edge's words, its parent's words, and that its next number is the smaller one
-pub link_readable : (own link₀ : ℕ) (ns es : List ℕ) (link : ℕ) (us : List ℕ) → Newest ns es link₀ → Raising own link₀ ns es link us → 0 < link → (link - 1) * edge_words + edge_words ≤ length es
-link_readable own link₀ ns es link us p g z =
+pub link_readable : (own link₀ : ℕ) (ns es : List ℕ) (link i : ℕ) (us : List ℕ) → Newest ns es link₀ → Raising own link₀ ns es link us → link ≡ i + 1 → i * edge_words + edge_words ≤ length es
+link_readable own link₀ ns es link i us p g z =
     let h = p.sits in
     let left = g.does p.counts h p.row p.inside p.newest_is in
-    let n = link_edge h own p.row link us left z in
-    edge_words_lem h (link - 1) (omega (arith, n.below, left.within))
+    let n = link_edge h own p.row link i us left z in
+    edge_words_lem h i (omega (arith, n.below, left.within))
 
 pub record Turn (us : List ℕ) (link from next : ℕ) : Type 0 where
   pub parent_in : from * node_words + node_words ≤ length us
   pub falls : next < link
 
-pub turn_at : (own link₀ : ℕ) (ns es : List ℕ) (link : ℕ) (us : List ℕ) (e : Edge) → Newest ns es link₀ → Raising own link₀ ns es link us → 0 < link → EdgeRead es (link - 1) e → Turn us link e.from e.next
-turn_at own link₀ ns es link us e p g z read =
+pub turn_at : (own link₀ : ℕ) (ns es : List ℕ) (link i : ℕ) (us : List ℕ) (e : Edge) → Newest ns es link₀ → Raising own link₀ ns es link us → link ≡ i + 1 → EdgeRead es i e → Turn us link e.from e.next
+turn_at own link₀ ns es link i us e p g z read =
     let h = p.sits in
     let left = g.does p.counts h p.row p.inside p.newest_is in
-    let a = at_link h own p.row link us e left z read in
+    let a = at_link h own p.row link i us e left z read in
     record {
       parent_in = omega (arith, a.from_in, nodes_within left.rows h.old_n us left.written.nodes_are);
-      falls = omega (arith, a.next_is, newest_low (link - 1) h.diagram.edges p.row);
+      falls = omega (arith, a.next_is, newest_low i h.diagram.edges p.row);
     }
 
 -- ---- a row
@@ -151,3 +151,9 @@ row_marked r ns es us n read z p =
 pub newest_of : (r : ℕ) (ns es : List ℕ) (n : Node) → Row ns es r → NodeRead ns r n → Newest ns es n.newest
 newest_of r ns es n p read =
     record { counts = p.counts; sits = p.sits; row = r; inside = p.inside; newest_is = ap (λ (y : Node). y.newest) (node_is p.sits r n read p.inside) }
+
+-- what raising a row's parents needs
+pub ruleset parents = (raise_none, raise_all)
+
+-- what a row's turn needs
+pub ruleset turn = (row_unmarked, row_marked)

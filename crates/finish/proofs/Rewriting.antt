@@ -6,13 +6,14 @@ use native.Mathlib.Omega.{arith}
 use lib.ListN.{length, set, length-append, length-set}
 use Rattle.words.specs.I64.{mid}
 use Rattle.diagram.specs.Node.{Node, Edge, node_at, edge_at, update, marked_with}
-use Rattle.diagram.specs.Tables.{with_nodes, rows_from}
+use Rattle.diagram.specs.Tables.{with_nodes, rows_from, rows_of}
 use Rattle.diagram.specs.After5.{ground_rows, raise}
 use Rattle.layout.specs.Table.{over}
 use Rattle.layout.specs.Rows.{node_words, edge_words, encode_node, encode_edge, node_table, edge_table}
 use Rattle.layout.proofs.Table.{length_words}
 use Rattle.layout.proofs.Rows.{node_width, edge_width}
 use Rattle.rows.specs.Access.{NodeRead, NodeWritten}
+use Rattle.layers.specs.declared.Layer.{Layer}
 use Rattle.branch.specs.declared.Counts.{Counts}
 use Rattle.branch.specs.State.{counts_of, Held}
 use Rattle.theorems.proofs.Links.{SameLinks, update_wired}
@@ -148,6 +149,10 @@ ground_one from to i t u v a b g c =
           ∙ ap (λ (k : ℕ). over (node_table (ground_rows (rows_from from k) ns)) old) (sym z);
     }
 
-pub ground_all : (from to i : ℕ) (t u : List ℕ) → i - from ≤ to - from → to ≤ i → GroundedUpto from to i t u → LayerGrounded from to t u
-ground_all from to i t u a b g =
-    record { does = λ ns old q l. let z : i - from ≡ to - from = omega arith in g.does ns old q l ∙ ap (λ (k : ℕ). over (node_table (ground_rows (rows_from from k) ns)) old) z }
+pub ground_all : (l : Layer) (i : ℕ) (t u : List ℕ) → i - l.from ≤ l.to - l.from → l.to ≤ i → GroundedUpto l.from l.to i t u → LayerGrounded l t u
+unfolding rows_of
+ground_all l i t u a b g =
+    record { does = λ ns old q h. let z : i - l.from ≡ l.to - l.from = omega arith in g.does ns old q h ∙ ap (λ (k : ℕ). over (node_table (ground_rows (rows_from l.from k) ns)) old) z }
+
+-- what grounding a layer's rows needs
+pub ruleset grounding = (ground_none, ground_one, ground_all)

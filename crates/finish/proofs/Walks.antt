@@ -2,9 +2,10 @@
 use mathlib.Core.Path.{◌≡◌, refl, sym, ap, subst, ◌∙◌}
 use mathlib.Core.Bool.{Bool, true, false, not, ◌&&◌, ◌||◌}
 use mathlib.Core.List.{List}
-use Prim.Native.Nat.{ℕ, zero, suc, ◌+◌, ◌-◌, ◌*◌, ◌<◌, ◌≤◌}
+use Prim.Native.Nat.{ℕ, zero, suc, ◌+◌, ◌*◌, ◌<◌, ◌≤◌}
 use native.Mathlib.Omega.{arith}
 use lib.ListN.{length}
+use Rattle.std.specs.Prelude.{Option, Some, None}
 use Rattle.diagram.specs.Node.{Node, Edge, node_at, edge_at}
 use Rattle.diagram.specs.Run.{Mode, exactly, restricted, relaxing, is_relaxing}
 use Rattle.diagram.specs.Tables.{Diagram, Found, at, nowhere}
@@ -15,8 +16,6 @@ use Rattle.rows.specs.Access.{NodeRead, EdgeRead}
 use Rattle.branch.specs.declared.Counts.{Counts}
 use Rattle.theorems.proofs.Links.{best_parent_smaller}
 use Rattle.theorems.proofs.Terminals.{best_terminal}
-use Rattle.finish.specs.declared.Best.{Best}
-use Rattle.finish.specs.declared.Best.TheVariants as Answer
 use Rattle.finish.specs.Terminals.{row_of, Within}
 use Rattle.finish.specs.Sits.{Sits, Row}
 use Rattle.finish.specs.Walks.{WalkedUp, Ranked, PathJudged}
@@ -35,17 +34,17 @@ row_words h r l = omega (arith, h.nodes_in)
 pub edge_words_lem : {k : Counts} {ns es : List ℕ} (h : Sits k ns es) (e : ℕ) → e < length h.diagram.edges → e * edge_words + edge_words ≤ length es
 edge_words_lem h e l = omega (arith, h.edges_in)
 
--- the parent over the best edge, where there is one
-pub record Parent (d : Diagram) (r best : ℕ) : Type 0 where
-  pub edge_in : best - 1 < length d.edges
-  pub smaller : (edge_at d.edges (best - 1)).from < r
-  pub one_more : (node_at d.nodes r).best ≡ suc (best - 1)
+-- the parent over best edge i
+pub record Parent (d : Diagram) (r i : ℕ) : Type 0 where
+  pub edge_in : i < length d.edges
+  pub smaller : (edge_at d.edges i).from < r
+  pub one_more : (node_at d.nodes r).best ≡ suc i
 
-pub parent_of : {k : Counts} {ns es : List ℕ} (h : Sits k ns es) (r : ℕ) (n : Node) → NodeRead ns r n → r < length h.diagram.nodes → 0 < n.best → Parent h.diagram r n.best
-parent_of h r n read l b =
+pub parent_of : {k : Counts} {ns es : List ℕ} (h : Sits k ns es) (r i : ℕ) (n : Node) → NodeRead ns r n → r < length h.diagram.nodes → n.best ≡ i + 1 → Parent h.diagram r i
+parent_of h r i n read l b =
     let q : n.best ≡ (node_at h.diagram.nodes r).best = ap (λ (x : Node). x.best) (node_is h r n read l) in
-    let z : (node_at h.diagram.nodes r).best ≡ suc (n.best - 1) = omega arith in
-    let p = best_parent_smaller h.diagram h.wired r (n.best - 1) l z in
+    let z : (node_at h.diagram.nodes r).best ≡ suc i = omega arith in
+    let p = best_parent_smaller h.diagram h.wired r i l z in
     record { edge_in = p.0; smaller = p.1; one_more = z }
 
 -- ---- the four ways of a row
@@ -78,16 +77,16 @@ walk_top ns es r n read x y z = record { does = λ k h l f q. go h l f q }
     go h l (suc zero) q = absurd (omega arith)
     go h l (suc (suc f)) q = sym (walk_row h r (suc f) n read l ∙ rw (x, y, z) refl)
 
-pub walk_on : (ns es : List ℕ) (r : ℕ) (n : Node) (e : Edge) (b : Bool) → NodeRead ns r n → n.exact ≡ false → n.relaxed ≡ false → 0 < n.best → EdgeRead es (n.best - 1) e → WalkedUp ns es e.from b → WalkedUp ns es r b
+pub walk_on : (ns es : List ℕ) (r i : ℕ) (n : Node) (e : Edge) (b : Bool) → NodeRead ns r n → n.exact ≡ false → n.relaxed ≡ false → n.best ≡ i + 1 → EdgeRead es i e → WalkedUp ns es e.from b → WalkedUp ns es r b
 unfolding parent_by
-walk_on ns es r n e b read x y z edge w = record { does = λ k h l f q. go h l f q }
+walk_on ns es r i n e b read x y z edge w = record { does = λ k h l f q. go h l f q }
   where
     go : {k : Counts} (h : Sits k ns es) → r < length h.diagram.nodes → (f : ℕ) → r + 2 ≤ f → b ≡ walk_up f h.diagram.nodes h.diagram.edges (at r)
     go h l zero q = absurd (omega arith)
     go {k} h l (suc f) q =
-        let p = parent_of h r n read l z in
-        let u : e.from ≡ (edge_at h.diagram.edges (n.best - 1)).from = ap (λ (a : Edge). a.from) (edge_is h (n.best - 1) e edge p.edge_in) in
-        let v : n.best ≡ suc (n.best - 1) = omega arith in
+        let p = parent_of h r i n read l z in
+        let u : e.from ≡ (edge_at h.diagram.edges i).from = ap (λ (a : Edge). a.from) (edge_is h i e edge p.edge_in) in
+        let v : n.best ≡ suc i = omega arith in
         let o : parent_by h.diagram.edges n.best ≡ at e.from = ap (parent_by h.diagram.edges) v ∙ ap at (sym u) in
         w.does k h (omega (arith, p.smaller)) f (omega (arith, p.smaller))
         ∙ ap (walk_up f h.diagram.nodes h.diagram.edges) (sym o)
@@ -95,19 +94,19 @@ walk_on ns es r n e b read x y z edge w = record { does = λ k h l f q. go h l f
 
 -- ---- what the next step asks
 
-pub edge_readable : (ns es : List ℕ) (r : ℕ) (n : Node) → Row ns es r → NodeRead ns r n → 0 < n.best → (n.best - 1) * edge_words + edge_words ≤ length es
-edge_readable ns es r n row read z = edge_words_lem row.sits (n.best - 1) (parent_of row.sits r n read row.inside z).edge_in
+pub edge_readable : (ns es : List ℕ) (r i : ℕ) (n : Node) → Row ns es r → NodeRead ns r n → n.best ≡ i + 1 → i * edge_words + edge_words ≤ length es
+edge_readable ns es r i n row read z = edge_words_lem row.sits i (parent_of row.sits r i n read row.inside z).edge_in
 
-pub parent_row : (ns es : List ℕ) (r : ℕ) (n : Node) (e : Edge) → Row ns es r → NodeRead ns r n → 0 < n.best → EdgeRead es (n.best - 1) e → (e.from < r) × Row ns es e.from
-parent_row ns es r n e row read z edge =
+pub parent_row : (ns es : List ℕ) (r i : ℕ) (n : Node) (e : Edge) → Row ns es r → NodeRead ns r n → n.best ≡ i + 1 → EdgeRead es i e → (e.from < r) × Row ns es e.from
+parent_row ns es r i n e row read z edge =
     let h = row.sits in
-    let p = parent_of h r n read row.inside z in
-    let u : e.from ≡ (edge_at h.diagram.edges (n.best - 1)).from = ap (λ (a : Edge). a.from) (edge_is h (n.best - 1) e edge p.edge_in) in
+    let p = parent_of h r i n read row.inside z in
+    let u : e.from ≡ (edge_at h.diagram.edges i).from = ap (λ (a : Edge). a.from) (edge_is h i e edge p.edge_in) in
     (omega (arith, p.smaller), record { counts = row.counts; sits = h; inside = omega (arith, p.smaller, row.inside) })
 
 -- ---- over the best node
 
-pub not_relaxed : (ns es : List ℕ) (best : Best) (relaxed : Bool) → relaxed ≡ false → PathJudged ns es best relaxed false
+pub not_relaxed : (ns es : List ℕ) (best : Option NodeId) (relaxed : Bool) → relaxed ≡ false → PathJudged ns es best relaxed false
 unfolding exact_path
 not_relaxed ns es best relaxed z = record { does = λ k h m q w. go h m (sym q ∙ z) }
   where
@@ -122,12 +121,12 @@ judged h exactly relaxed f b q z e w = let y : ◌≡◌ {A = ℕ} 0 1 = cc in a
 judged h restricted relaxed f b q z e w = let y : ◌≡◌ {A = ℕ} 0 1 = cc in absurd (omega arith)
 judged h relaxing relaxed f b q z e w = w ∙ ap (walk_up (suc (length h.diagram.nodes)) h.diagram.nodes h.diagram.edges) e
 
-pub no_best_node : (ns es : List ℕ) (best : Best) (relaxed : Bool) → relaxed ≡ true → best ≡ Answer.NoTerminal → PathJudged ns es best relaxed true
+pub no_best_node : (ns es : List ℕ) (best : Option NodeId) (relaxed : Bool) → relaxed ≡ true → best ≡ None → PathJudged ns es best relaxed true
 unfolding walk_up
 no_best_node ns es best relaxed z e =
     record { does = λ k h m q w. judged h m relaxed nowhere true q z (ap row_of (sym e) ∙ w) refl }
 
-pub best_node_walked : (ns es : List ℕ) (best : Best) (n : NodeId) (relaxed b : Bool) → relaxed ≡ true → best ≡ Answer.Node n → WalkedUp ns es n.0 b → PathJudged ns es best relaxed b
+pub best_node_walked : (ns es : List ℕ) (best : Option NodeId) (n : NodeId) (relaxed b : Bool) → relaxed ≡ true → best ≡ Some n → WalkedUp ns es n.0 b → PathJudged ns es best relaxed b
 best_node_walked ns es best n relaxed b z e u =
     record {
       does = λ k h m q w.
@@ -136,7 +135,13 @@ best_node_walked ns es best n relaxed b z e u =
           judged h m relaxed (at n.0) b q z v (u.does k h i.1 (suc (length h.diagram.nodes)) (omega (arith, i.1)));
     }
 
-pub best_row : (ns es : List ℕ) (best : Best) (n : NodeId) → best ≡ Answer.Node n → Ranked ns es best → Row ns es n.0
+pub best_row : (ns es : List ℕ) (best : Option NodeId) (n : NodeId) → best ≡ Some n → Ranked ns es best → Row ns es n.0
 best_row ns es best n e p =
-    let i = subst (λ (x : Best). Within 0 (length p.sits.diagram.nodes) x) e p.inside in
+    let i = subst (λ (x : Option NodeId). Within 0 (length p.sits.diagram.nodes) x) e p.inside in
     record { counts = p.counts; sits = p.sits; inside = i.1 }
+
+-- what the walk from a row needs
+pub ruleset walk = (row_words, walk_exact, walk_relaxed, walk_top, walk_on, edge_readable)
+
+-- what the walk from the best node needs
+pub ruleset best_walk = (not_relaxed, no_best_node, best_node_walked, best_row)

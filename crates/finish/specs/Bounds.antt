@@ -1,14 +1,16 @@
 -- What the steps of the local bounds promise. They write marks and bottom values alone, so the diagram in the tables stays wired.
-use Rattle.std.specs.Prelude.{◌≡◌, Bool, true, false, cond, List, ℕ, ◌-◌, ◌<◌, ◌≤◌, length, get_or}
+use Rattle.std.specs.Prelude.{◌≡◌, Bool, true, false, cond, List, ℕ, ◌<◌, ◌≤◌, length, get_or}
 use Rattle.diagram.specs.Node.{Node, Edge, node_at, update}
 use Rattle.diagram.specs.Run.{Mode, is_relaxing}
-use Rattle.diagram.specs.Tables.{LastExact, unsquashed, squashed_after, with_nodes, rows_from, inbound}
+use Rattle.diagram.specs.Tables.{LastExact, unsquashed, squashed_after, with_nodes, rows_of, inbound}
 use Rattle.diagram.specs.After5.{ground_rows, raise_parents, raise_rows, raise_layers, local_bounds}
 use Rattle.layout.specs.Table.{over}
 use Rattle.layout.specs.Rows.{node_table}
 use Rattle.branch.specs.declared.Counts.{Counts}
+use Rattle.layers.specs.declared.Layer.{Layer}
 use Rattle.layers.specs.declared.Layers.{Layers}
-use Rattle.layers.specs.Stored.{Sized, stored}
+use Rattle.layers.specs.Layer.{no_layer}
+use Rattle.layers.specs.Stored.{range_of, stored}
 use Rattle.theorems.proofs.Links.{Wired}
 use Rattle.finish.specs.Sits.{Sits}
 
@@ -16,9 +18,9 @@ use Rattle.finish.specs.Sits.{Sits}
 pub record RowChanged (f : Node → Node) (r : ℕ) (t u : List ℕ) : Type 0 where
   pub does : (ns : List Node) (old : List ℕ) → t ≡ over (node_table ns) old → r < length ns → u ≡ over (node_table (update f ns r)) old
 
--- the rows from .. to get 0 and a mark
-pub record LayerGrounded (from to : ℕ) (t u : List ℕ) : Type 0 where
-  pub does : (ns : List Node) (old : List ℕ) → t ≡ over (node_table ns) old → to ≤ length ns → u ≡ over (node_table (ground_rows (rows_from from (to - from)) ns)) old
+-- the rows of layer l get 0 and a mark
+pub record LayerGrounded (l : Layer) (t u : List ℕ) : Type 0 where
+  pub does : (ns : List Node) (old : List ℕ) → t ≡ over (node_table ns) old → l.to ≤ length ns → u ≡ over (node_table (ground_rows (rows_of (range_of l)) ns)) old
 
 -- The node table became us, and holds these rows in place of the diagram's, which stays wired.
 pub record Rewritten {k : Counts} {ns es : List ℕ} (h : Sits k ns es) (rows : List Node) (us : List ℕ) : Type 0 where
@@ -51,20 +53,18 @@ pub record Upto (ns es : List ℕ) (to : ℕ) : Type 0 where
   pub sits : Sits counts ns es
   pub inside : to ≤ length sits.diagram.nodes
 
-pub record LayerRaised (from to : ℕ) (ns es us : List ℕ) : Type 0 where
-  pub does : (k : Counts) (h : Sits k ns es) → to ≤ length h.diagram.nodes → Rewritten h (raise_rows h.diagram.edges (rows_from from (to - from)) h.diagram.nodes) us
+pub record LayerRaised (l : Layer) (ns es us : List ℕ) : Type 0 where
+  pub does : (k : Counts) (h : Sits k ns es) → l.to ≤ length h.diagram.nodes → Rewritten h (raise_rows h.diagram.edges (rows_of (range_of l)) h.diagram.nodes) us
 
 -- each stored layer ends at row n or before it
 pub record Ranged (l : Layers) (n : ℕ) : Type 0 where
-  pub ends : (i : ℕ) → i < l.count → get_or l.to i 0 ≤ n
+  pub ends : (i : ℕ) → i < l.count → (get_or l.rows i no_layer).to ≤ n
 
 -- the diagram's rows hold each stored layer
 pub record Layered (ns es : List ℕ) (l : Layers) : Type 0 where
   pub counts : Counts
   pub sits : Sits counts ns es
   pub ranged : Ranged l (length sits.diagram.nodes)
-  pub sized : Sized l
-  pub few : l.count ≤ 65
 
 pub record LayersRaised (l : Layers) (ns es us : List ℕ) : Type 0 where
   pub does : (k : Counts) (h : Sits k ns es) → Ranged l (length h.diagram.nodes) → Rewritten h (raise_layers h.diagram.edges (stored l) h.diagram.nodes) us

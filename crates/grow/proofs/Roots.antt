@@ -13,7 +13,7 @@ use Rattle.diagram.specs.Rule1.{root_only, rooted}
 use Rattle.layout.specs.Table.{words_of, over}
 use Rattle.layout.specs.Rows.{node_words, node_table, edge_table}
 use Rattle.rows.specs.Access.{NodeWritten}
-use Rattle.branch.specs.declared.Step.TheVariants.{Going, Stopped}
+use Rattle.branch.specs.State.{Going, Stopped}
 use Rattle.grow.specs.declared.Root.{Root}
 use Rattle.grow.specs.Growing.{RootPushed}
 
@@ -50,3 +50,5 @@ root_written room r ns n ns' h l q w =
                 };
           });
     }
+
+pub ruleset roots = (root_refused, root_written)

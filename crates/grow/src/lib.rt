@@ -1,24 +1,25 @@
 // Rules 1, 2 and 5 of document 01, the outer loop of `_compile` in clean.rs: the root, then layer after layer ordered, squashed if it is too wide, stored and expanded.
 #![tactic(auto)]
 
-ghost use Rattle.std.specs.Prelude.{◌≡◌, cond, ◌∷◌, ◌+◌, ◌-◌, ◌*◌, ◌<◌, ◌≤◌, ltb, length, take};
+ghost use Rattle.std.specs.Prelude.{◌+◌, ◌-◌, ◌*◌, ◌<◌, ◌≤◌, ◌≡◌, length};
 ghost use Rattle.diagram.specs.Run.{is_relaxing};
-ghost use Rattle.layout.specs.Rows.{node_words};
-ghost use Rattle.layers.specs.Stored.{Sized, stored, range, last_of};
-ghost use Rattle.diagram.specs.Rule5.{name_last};
-ghost use Rattle.squash.specs.Squashing.{Squashable};
-ghost use Rattle.knapsack.specs.Items.{items_of};
 ghost use Rattle.diagram.specs.Rule2.{grown};
+ghost use Rattle.knapsack.specs.Items.{items_of};
+ghost use Rattle.layout.specs.Rows.{node_words};
+ghost use Rattle.branch.specs.State.{said, said_of, Same};
+ghost use Rattle.squash.specs.Squashing.{Squashable};
 ghost use Rattle.grow.specs.Told.{mode_of, settings_of, record_of};
 ghost use Rattle.grow.specs.Growing.{RootPushed, too_wide, Grew, Growable};
-ghost use Rattle.grow.specs.Turns.{LayerOrdered, WideSquashed, IfSquashed, IfSquashable, Expandable, LayerExpanded, Turn, Turned, EmptyStored, LastStored};
+ghost use Rattle.grow.specs.Turns.{growth_of, grown_of, TablesStay, LayerOrdered, WideSquashed, Expandable, LayerExpanded, Turn, Turned, EmptyStored, LastStored, Begun, stops_at, Completed};
 
-use branch::{Counts, Rooms, Step};
-use layers::{Last, Layers};
+use blocks::Items;
+use branch::{Counts, Diagram, Extent, Rooms, Stop};
+use layers::{Layer, Layers};
+use reasons::Refusal;
 use rows::NodeId;
 
 // The three modes.
-#[derive(Clone, Copy)]
+#[derive(Clone, Copy, PartialEq, Eq, Debug)]
 pub enum Mode {
     Exact,
     Restricted,
@@ -42,281 +43,237 @@ pub struct Root {
     pub depth: usize,
 }
 
-// How far a run has come: its step, the coming layer's first row, the stored layers and the last exact one.
+// How far a run has come: the rows written so far, the coming layer's first row, the stored layers and the last exact one.
 #[derive(Clone, Copy)]
 pub struct Growth {
-    pub step: Step,
+    pub counts: Counts,
     pub start: usize,
     pub layers: Layers,
-    pub last: Last,
+    pub last: Option<Layer>,
+}
+
+// What is stored of a run while its tables grow: its layers and the last exact one.
+#[derive(Clone, Copy)]
+struct Store {
+    layers: Layers,
+    last: Option<Layer>,
+}
+
+impl Mode {
+    // Whether a mode is relaxed: it merges where the others flag deleted, and has a cutset.
+    pub fn relaxes(self) -> bool
+        ensures { result ≡ is_relaxing (mode_of self) }
+    {
+        matches!(self, Mode::Relaxed)
+    }
+
+    // `_squash_if_needed` of clean.rs, its test: more nodes than the width; restricted in any layer, relaxed not while only the root layer is stored.
+    #[tactic(auto, unfolding(crate::specs::Growing::too_wide))]
+    fn too_wide(self, width: usize, count: usize, stored: usize) -> bool
+        ensures { result ≡ too_wide (mode_of self) width count stored }
+    {
+        match self {
+            Mode::Exact => false,
+            Mode::Restricted => width < count,
+            Mode::Relaxed => width < count && 1 < stored,
+        }
+    }
 }
 
 // 'Row 0 is the root.' It needs a row like any other.
-fn push_root(nodes: &mut [u64], room: usize, r: Root) -> Step
+#[tactic(auto, using(crate::proofs::Roots::roots))]
+fn push_root(nodes: &mut [u64], room: usize, r: Root) -> Result<Counts, Stop>
     requires { room * node_words ≤ length nodes.old }
-    ensures { RootPushed room r nodes.old result nodes.new }
+    ensures { RootPushed room r nodes.old (said result) nodes.new }
 {
     if room == 0 {
-        let none = Counts { nodes: 0, edges: 0 };
-        return Step::Stopped(11, none);
+        return Err(Stop {
+            refusal: Refusal::NodesFull,
+            counts: Counts { nodes: 0, edges: 0 },
+        });
     }
     let n = branch::new_node(r.capacity, r.depth as u64, r.value, true);
     rows::write_node(nodes, NodeId(0), n);
-    let one = Counts { nodes: 1, edges: 0 };
-    Step::Going(one)
+    Ok(Counts { nodes: 1, edges: 0 })
 }
 
-// `_squash_if_needed` of clean.rs, its test: more nodes than the width; restricted in any layer, relaxed not while only the root layer is stored.
-fn too_wide(mode: Mode, width: usize, count: usize, stored: usize) -> bool
-    ensures { result ≡ too_wide (mode_of mode) width count stored }
+// The list becomes the coming layer's rows, larger capacity first.
+#[tactic(auto, using(crate::proofs::Squashing::order_laws))]
+fn order_layer(nodes: &[u64], list: &mut [usize], start: usize)
+    requires { (start + length list.old) * node_words ≤ length nodes.now }
+    ensures { LayerOrdered start (length list.old) nodes.now list.new }
 {
-    match mode {
-        Mode::Exact => false,
-        Mode::Restricted => width < count,
-        Mode::Relaxed => words::both(width < count, 1 < stored),
+    order::fill(list, start);
+    order::by_capacity(nodes, list);
+}
+
+// The squash of a layer that is too wide. Where it goes on, its first `width` rows are the layer, in squash order.
+#[tactic(auto, using(crate::proofs::Squashing::squash_laws))]
+fn squash(d: &mut Diagram, layer: &mut [usize], t: Task) -> Result<(), Refusal>
+    requires { Squashable d.old.at.start d.old.at.counts d.old.at.rooms (t.width - 1) layer.old d.old.nodes.now d.old.edges.now × (0 < t.width) }
+    ensures same { Same d.old.nodes d.new.nodes d.old.edges d.new.edges d.old.at d.new.at }
+    ensures does { WideSquashed t.mode t.width d.old.at.start d.old.at.counts d.old.at.rooms layer.old d.old.nodes.now
+        d.old.edges.now (said_of result d.new.at.counts) layer.new d.new.nodes.now d.new.edges.now }
+{
+    let nodes = &mut *d.nodes;
+    order::by_squash(nodes, layer);
+    if t.mode.relaxes() {
+        return squash::relax(d, layer, t.width);
     }
+    squash::restrict(nodes, layer, t.width);
+    Ok(())
 }
 
-// The coming layer's rows, larger capacity first, in the list's first `count` places.
-fn order_layer(nodes: &[u64], list: &mut [usize], start: usize, count: usize)
-    requires { (count ≤ length list.old) × ((start + count) * node_words ≤ length nodes.now) }
-    ensures { LayerOrdered start count nodes.now list.new }
-{
-    order::fill(list, start, count);
-    order::by_capacity(nodes, list, count);
-}
-
-// Whether a mode is relaxed: it merges where the others flag deleted, and has a cutset.
-pub fn relaxes(mode: Mode) -> bool
-    ensures { result ≡ is_relaxing (mode_of mode) }
-{
-    match mode {
-        Mode::Exact => false,
-        Mode::Restricted => false,
-        Mode::Relaxed => true,
-    }
-}
-
-// The squash of a layer that is too wide. Where it goes on, the list's first `width` places are the layer, in squash order.
-fn squash(
-    nodes: &mut [u64],
-    edges: &mut [u64],
-    list: &mut [usize],
-    count: usize,
-    mode: Mode,
-    width: usize,
-    start: usize,
-    k: Counts,
-    rooms: Rooms,
-) -> Step
-    requires { Squashable start k rooms (width - 1) count list.old nodes.old edges.old × (0 < width) }
-    ensures { WideSquashed mode width start k rooms count list.old nodes.old edges.old result list.new
-        nodes.new edges.new }
-{
-    order::by_squash(nodes, list, count);
-    if relaxes(mode) {
-        return squash::relax(nodes, edges, list, count, width, start, k, rooms);
-    }
-    squash::restrict(nodes, list, count, width);
-    Step::Going(k)
-}
-
-// `_squash_if_needed` of clean.rs.
-fn squash_if_needed(
-    nodes: &mut [u64],
-    edges: &mut [u64],
-    list: &mut [usize],
-    count: usize,
-    t: Task,
-    start: usize,
-    k: Counts,
-    wide: bool,
-) -> Step
-    requires { IfSquashable wide t.width start k t.rooms count list.old nodes.old edges.old }
-    ensures { IfSquashed wide t.mode t.width start k t.rooms count list.old nodes.old edges.old result
-        list.new nodes.new edges.new }
-{
-    let mode = t.mode;
-    let width = t.width;
-    let rooms = t.rooms;
-    if wide {
-        return squash(nodes, edges, list, count, mode, width, start, k, rooms);
-    }
-    Step::Going(k)
-}
-
-// How many rows a layer has left that was squashed or not.
-fn left_of(wide: bool, width: usize, count: usize) -> usize
-    ensures { result ≡ cond wide width count }
-{
-    if wide { width } else { count }
-}
-
-// The last exact layer after a layer that was squashed or not.
-fn last_after(wide: bool, layers: Layers, last: Last) -> Last
-    requires { Sized layers × (layers.count ≤ 65) }
-    ensures { last_of result ≡ cond wide (name_last (last_of last) (stored layers)) (last_of last) }
-{
-    if wide {
-        layers::name_last(layers, last)
-    } else {
-        last
-    }
-}
-
-// A squashed layer is stored and expanded: its rows are the list's first `count` places.
+// A squashed layer is stored and expanded: the list has its rows.
+#[tactic(auto, using(crate::proofs::Expanding::layer_expanded))]
 fn expand_layer(
-    nodes: &mut [u64],
-    edges: &mut [u64],
-    weights: &[u64],
-    profits: &[u64],
+    d: &mut Diagram,
+    items: Items,
     list: &[usize],
-    count: usize,
-    start: usize,
-    k: Counts,
-    rooms: Rooms,
+    t: Task,
+    s: &mut Store,
     depth: usize,
-    lower: u64,
-    layers: Layers,
-    last: Last,
-) -> Growth
-    requires { Expandable weights.now profits.now count k rooms depth layers list.now nodes.old edges.old }
-    ensures { LayerExpanded weights.now profits.now (take count list.now) start k rooms depth lower layers last
-        nodes.old edges.old result nodes.new edges.new }
+) -> Result<(), Refusal>
+    requires rooms { d.old.at.rooms ≡ t.rooms }
+    requires expandable { Expandable items.weights.now t (growth_of d.old.at s.old) depth list.now d.old.nodes.now d.old.edges.now }
+    ensures stay { TablesStay d.old.nodes d.new.nodes d.old.edges d.new.edges d.old.at d.new.at }
+    ensures does { LayerExpanded items.entry.weights.now items.entry.profits.now t (growth_of d.old.at s.old) depth list.now
+        d.old.nodes.now d.old.edges.now (grown_of result d.new.at s.new) d.new.nodes.now d.new.edges.now }
 {
-    let next = k.nodes;
-    let stored = layers::push(layers, start, next);
-    let step = expand::expand_all(
-        nodes, edges, weights, profits, list, count, next, k, rooms, depth, lower,
-    );
-    Growth {
-        step: step,
-        start: next,
-        layers: stored,
-        last: last,
-    }
+    s.layers = s.layers.push(Layer {
+        from: d.at.start,
+        to: d.at.counts.nodes,
+    });
+    d.at.start = d.at.counts.nodes;
+    expand::expand_all(d, items, list, depth, t.lower)
 }
 
-// One layer's turn: ordered, squashed if it is too wide, stored and expanded.
+// One layer's turn: ordered, squashed if it is too wide, stored and expanded. The first squash names the last exact layer.
 fn grow_layer(
-    nodes: &mut [u64],
-    edges: &mut [u64],
-    weights: &[u64],
-    profits: &[u64],
+    d: &mut Diagram,
+    items: Items,
     list: &mut [usize],
     t: Task,
-    g: Growth,
-    k: Counts,
+    s: &mut Store,
     depth: usize,
-) -> Growth
-    requires { Turn weights.now profits.now t depth g k list.old nodes.old edges.old }
-    ensures { Turned weights.now profits.now t depth g k nodes.old edges.old result nodes.new
-        edges.new }
+) -> Result<(), Refusal>
+    requires rooms { d.old.at.rooms ≡ t.rooms }
+    requires turn { Turn items.weights.now items.profits.now t depth (growth_of d.old.at s.old) list.old d.old.nodes.now d.old.edges.now }
+    ensures stay { TablesStay d.old.nodes d.new.nodes d.old.edges d.new.edges d.old.at d.new.at }
+    ensures does { Turned items.entry.weights.now items.entry.profits.now t depth (growth_of d.old.at s.old) d.old.nodes.now
+        d.old.edges.now (grown_of result d.new.at s.new) d.new.nodes.now d.new.edges.now }
 {
-    let mode = t.mode;
-    let rooms = t.rooms;
-    let start = g.start;
-    let layers = g.layers;
-    let last = g.last;
-    let count = k.nodes - start;
-    order_layer(nodes, list, start, count);
-    let wide = too_wide(mode, t.width, count, layers.count);
-    let squashed = squash_if_needed(nodes, edges, list, count, t, start, k, wide);
-    let Step::Going(more) = squashed else {
-        return Growth {
-            step: squashed,
-            start: start,
-            layers: layers,
-            last: last,
-        };
-    };
-    let left = left_of(wide, t.width, count);
-    let named = last_after(wide, layers, last);
-    expand_layer(
-        nodes, edges, weights, profits, list, left, start, more, rooms, depth, t.lower, layers,
-        named,
-    )
+    let layer = &mut list[..d.at.counts.nodes - d.at.start];
+    let nodes = &mut *d.nodes;
+    order_layer(nodes, layer, d.at.start);
+    if !t.mode.too_wide(t.width, layer.len(), s.layers.count) {
+        return expand_layer(d, items, layer, t, s, depth);
+    }
+    squash(d, layer, t)?;
+    s.last = s.layers.name_last(s.last);
+    expand_layer(d, items, &layer[..t.width], t, s, depth)
+}
+
+impl Store {
+    // How far the run has come, with the counts and the coming layer's first row of its tables.
+    fn growth_at(&self, at: Extent) -> Growth
+        ensures { result ≡ growth_of at self.now }
+    {
+        Growth {
+            counts: at.counts,
+            start: at.start,
+            layers: self.layers,
+            last: self.last,
+        }
+    }
 }
 
 // 'stop if the coming layer is empty (the Rust then stores the layer 0..0)'
-fn store_empty(g: Growth, k: Counts) -> Growth
-    requires { Sized g.layers × (g.layers.count < 65) }
-    ensures { EmptyStored g k result }
+#[tactic(auto, using(crate::proofs::Storing::empty_stored))]
+fn store_empty(g: Growth) -> Growth
+    requires { g.layers.count < 65 }
+    ensures { EmptyStored g result }
 {
-    let layers = g.layers;
-    let last = g.last;
     Growth {
-        step: Step::Going(k),
-        start: g.start,
-        layers: layers::push(layers, 0, 0),
-        last: last,
-    }
-}
-
-// A layer is stored if it has rows.
-fn push_rows(layers: Layers, start: usize, next: usize) -> Layers
-    requires { Sized layers × (layers.count < 65) }
-    ensures { Sized result × ((stored result ≡ cond (ltb start next) (range start next ∷ stored layers) (stored layers)) × (result.count ≤ 65)) }
-{
-    if start < next {
-        layers::push(layers, start, next)
-    } else {
-        layers
+        layers: g.layers.push(Layer { from: 0, to: 0 }),
+        ..g
     }
 }
 
 // 'When none remain, a coming layer with nodes is stored as it stands.'
-fn store_last(g: Growth, k: Counts) -> Growth
-    requires { Sized g.layers × (g.layers.count < 65) }
-    ensures { LastStored g k result }
+#[tactic(auto, using(crate::proofs::Storing::last_laws))]
+fn store_last(g: Growth) -> Growth
+    requires { g.layers.count < 65 }
+    ensures { LastStored g result }
 {
-    let layers = g.layers;
-    let last = g.last;
-    let start = g.start;
+    if g.counts.nodes <= g.start {
+        return g;
+    }
     Growth {
-        step: Step::Going(k),
-        start: start,
-        layers: push_rows(layers, start, k.nodes),
-        last: last,
+        layers: g.layers.push(Layer {
+            from: g.start,
+            to: g.counts.nodes,
+        }),
+        ..g
     }
 }
 
-// The whole growth of a record's diagram: 'Item d, in given order, is decided at depth d.'
+// The layers from that depth on, until no item or no row is left: 'Item d, in given order, is decided at depth d.' No layer has more
+// rows than the list.
+fn grow_layers(
+    d: &mut Diagram,
+    items: Items,
+    t: Task,
+    s: &mut Store,
+    from: usize,
+) -> Result<Growth, Refusal>
+    requires rooms { d.old.at.rooms ≡ t.rooms }
+    requires begun { Begun items.weights.now items.profits.now t from (growth_of d.old.at s.old) d.old.nodes.now d.old.edges.now }
+    ensures stay { TablesStay d.old.nodes d.new.nodes d.old.edges d.new.edges d.old.at d.new.at }
+    ensures does { Completed items.entry.weights.now items.entry.profits.now t from (growth_of d.old.at s.old) d.old.nodes.now
+        d.old.edges.now (stops_at result d.new.at.counts) d.new.nodes.now d.new.edges.now }
+{
+    let mut list = [0usize; 1024];
+    for depth in from..items.len() {
+        if d.at.counts.nodes <= d.at.start {
+            return Ok(store_empty(s.growth_at(d.at)));
+        }
+        grow_layer(d, items, &mut list, t, s, depth)?;
+    }
+    Ok(store_last(s.growth_at(d.at)))
+}
+
+// The whole growth of a record's diagram.
 pub fn grow(
     nodes: &mut [u64],
     edges: &mut [u64],
-    weights: &[u64],
-    profits: &[u64],
+    items: Items,
     t: Task,
     r: Root,
-) -> Growth
-    requires { Growable weights.now profits.now t r nodes.old edges.old }
-    ensures { Grew (grown (settings_of t) (items_of weights.now profits.now) (record_of r)) nodes.old edges.old result
-        nodes.new edges.new }
+) -> Result<Growth, Stop>
+    requires { Growable items.weights.now t r nodes.old edges.old }
+    ensures { Grew (grown (settings_of t) (items_of items.entry.weights.now items.entry.profits.now) (record_of r)) nodes.old
+        edges.old result nodes.new edges.new }
 {
-    let mut list = [0usize; 1024];
-    let root = push_root(nodes, t.rooms.nodes, r);
-    let mut g = Growth {
-        step: root,
-        start: 0,
-        layers: layers::none(),
-        last: Last::Unsquashed,
+    let counts = push_root(nodes, t.rooms.nodes, r)?;
+    let mut d = Diagram {
+        nodes,
+        edges,
+        at: Extent {
+            start: 0,
+            counts,
+            rooms: t.rooms,
+        },
     };
-    let mut depth = r.depth;
-    while depth < weights.len() {
-        let step = g.step;
-        let Step::Going(k) = step else {
-            return g;
-        };
-        if k.nodes <= g.start {
-            return store_empty(g, k);
-        }
-        g = grow_layer(nodes, edges, weights, profits, &mut list, t, g, k, depth);
-        depth += 1;
+    let mut s = Store {
+        layers: Layers::new(),
+        last: None,
+    };
+    match grow_layers(&mut d, items, t, &mut s, r.depth) {
+        Ok(g) => Ok(g),
+        Err(refusal) => Err(Stop {
+            refusal,
+            counts: d.at.counts,
+        }),
     }
-    let step = g.step;
-    let Step::Going(k) = step else {
-        return g;
-    };
-    store_last(g, k)
 }

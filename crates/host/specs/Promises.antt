@@ -17,7 +17,7 @@ use Rattle.border.specs.declared.Page.{Page}
 use Rattle.border.specs.Border.{number_of, found_of, host_search_after, ending_number, output_in}
 
 pub record CompilesFor (d : Compile.After) (n : ℕ) (found : Found) (ns es records : List ℕ) : Type 0 where
-  pub number_is : n ≡ number_of (answer_from d.answer).verdict
+  pub number_is : n ≡ number_of (answer_from d.answer)
   pub found_is : found ≡ found_of (answer_from d.answer)
   pub nodes_are : ns ≡ d.lent.nodes
   pub edges_are : es ≡ d.lent.edges
@@ -25,13 +25,13 @@ pub record CompilesFor (d : Compile.After) (n : ℕ) (found : Found) (ns es reco
 
 -- old is the lent search before the call, s after it
 pub record StartsFor (d : Start.After) (n : ℕ) (old s : HostSearch) (list : List Place) : Type 0 where
-  pub number_is : n ≡ number_of (started_from d.answer).verdict
-  pub search_is : s ≡ host_search_after (started_from d.answer).verdict (started_from d.answer).search old
+  pub number_is : n ≡ number_of (started_from d.answer)
+  pub search_is : s ≡ host_search_after (started_from d.answer) old
   pub list_is : list ≡ d.list
 
 pub record PicksFor (d : Pick.After) (n : ℕ) (old s : HostSearch) (ns es : List ℕ) (list : List Place) (scratch : List ℕ) : Type 0 where
-  pub number_is : n ≡ number_of (picked_from d.answer d.search).verdict
-  pub search_is : s ≡ host_search_after (picked_from d.answer d.search).verdict (picked_from d.answer d.search).search old
+  pub number_is : n ≡ number_of (picked_from d.answer d.search)
+  pub search_is : s ≡ host_search_after (picked_from d.answer d.search) old
   pub nodes_are : ns ≡ d.held.lent.nodes
   pub edges_are : es ≡ d.held.lent.edges
   pub list_is : list ≡ d.held.list

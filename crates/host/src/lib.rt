@@ -14,7 +14,9 @@ ghost use Rattle.border.specs.Border.{ask_in, query_in, search_in};
 ghost use Rattle.host.specs.Promises.{CompilesFor, StartsFor, PicksFor, RunsFor};
 
 use border::{Found, HostSearch, Page, Question, Terms};
+use query::Query;
 use records::Record;
+use search::{Ask, Search};
 
 // Compiles a record: `found` is written, accepted or refused. The list of drained records is words, as the tables are.
 pub fn jambtulip_compile(
@@ -30,11 +32,17 @@ pub fn jambtulip_compile(
         (compile (asked_by weights.now profits.now (query_in question)) (lent_of nodes.old edges.old records.old))
         result found.new nodes.new edges.new records.new }
 {
-    let q = border::query_in(question);
-    let a = query::compile_record(weights, profits, nodes, edges, records, q);
-    let f = border::found_of(a);
-    *found = f;
-    border::answer_number(a)
+    let query = Query::from(question);
+    match query::compile_record(weights, profits, nodes, edges, records, query) {
+        Ok(compiled) => {
+            *found = Found::from(compiled);
+            0
+        }
+        Err(refusal) => {
+            *found = Found::nothing();
+            refusal.number()
+        }
+    }
 }
 
 // Starts a search: its root stands in the list's first place. A refused start changes nothing.
@@ -49,12 +57,13 @@ pub fn jambtulip_start(
     ensures { StartsFor (start (problem_of weights.now profits.now terms.page terms.width) bound (places list.old)) result
         s.old s.new (places list.new) }
 {
-    let old = *s;
-    let ask = border::ask_in(terms);
-    let a = search::start(weights, profits, ask, bound, list);
-    let after = border::after_start(a, old);
-    *s = after;
-    border::start_number(a)
+    match search::start(weights, profits, Ask::from(terms), bound, list) {
+        Ok(started) => {
+            *s = HostSearch::from(started);
+            0
+        }
+        Err(refusal) => refusal.number(),
+    }
 }
 
 // Picks the open record in that place of the list. A refused pick leaves search and list as they were.
@@ -73,15 +82,17 @@ pub fn jambtulip_pick(
         (pick (asked_in weights.now profits.now (ask_in terms) place) (search_of (search_in s.old)) (held_in (places list.old) nodes.old edges.old scratch.old))
         result s.old s.new nodes.new edges.new (places list.new) scratch.new }
 {
-    let old = *s;
-    let ask = border::ask_in(terms);
-    let before = border::search_in(old);
-    let p = pick::pick(
+    let ask = Ask::from(terms);
+    let before = Search::from(*s);
+    match pick::pick(
         weights, profits, nodes, edges, list, scratch, ask, place, before,
-    );
-    let after = border::after_pick(p, old);
-    *s = after;
-    border::pick_number(p)
+    ) {
+        Ok(picked) => {
+            *s = HostSearch::from(picked);
+            0
+        }
+        Err(refusal) => refusal.number(),
+    }
 }
 
 // Answers a job's text: `page` is written, accepted or refused.
@@ -96,10 +107,10 @@ pub fn jambtulip_run_job(
     ensures { RunsFor text.now (held_in (places list.old) nodes.old edges.old scratch.old) result
         page.new (held_in (places list.new) nodes.new edges.new scratch.new) }
 {
-    let read = job_text::read(text);
-    let ended = job::run_if(read, nodes, edges, list, scratch);
-    let output = job::answer_of(read, ended);
-    let shown = border::shown_of(output);
-    *page = shown;
-    border::pick_number(ended)
+    let ran = job::run_text(text, nodes, edges, list, scratch);
+    *page = Page::from(job::written(ran));
+    match ran {
+        Ok(_) => 0,
+        Err(refusal) => refusal.number(),
+    }
 }

@@ -3,6 +3,7 @@ use mathlib.Core.Path.{◌≡◌, refl, sym, ap, subst, ◌∙◌}
 use mathlib.Core.Bool.{Bool, true, false}
 use mathlib.Core.List.{List}
 use Prim.Native.Nat.{ℕ}
+use Rattle.std.specs.Prelude.{Ok}
 use native.Mathlib.Omega.{arith}
 use lib.IntN.{ℤ}
 use Rattle.records.specs.declared.Record.{Record}
@@ -11,13 +12,12 @@ use Rattle.searches.specs.Search as Def
 use Rattle.searches.specs.Start as Start
 use Rattle.searches.specs.Start.{start, started}
 use Rattle.searches.specs.Pick as Pick
-use Rattle.searches.specs.Pick.{refused_by, accepted, refusing, accepting, pick}
+use Rattle.searches.specs.Pick.{refused_by, accepted, pick}
 use Rattle.searches.specs.Trace.{Blocks, problem_at}
 use Rattle.search.specs.declared.Search.{Search}
 use Rattle.search.specs.Held.{search_of, search_from}
-use Rattle.search.specs.Answered.{started_from, picked_from}
+use Rattle.search.specs.Answered.{started_from, picked_from, search_after}
 use Rattle.pick_steps.specs.Tried.{asked_in, held_in}
-use Rattle.demand3.proofs.Picks.{Went, early, halted, outgrown, dropped, grown, went}
 use Rattle.search_corollaries.specs.Calls as Calling
 use Rattle.search_corollaries.specs.Calls.{Calls}
 use Rattle.search_corollaries.proofs.Calls.{calls_are_few, calls_end_optimal, calls_stand}
@@ -26,7 +26,7 @@ use Rattle.border.specs.Border.{flag_in, flag_of, ask_in, search_in, host_search
 use Rattle.host_corollaries.specs.Calls as Hosting
 use Rattle.host_corollaries.specs.Calls.{HostCalls, HostCallsAreFew, HostCallsEndOptimal, HostCallsStand}
 use Rattle.host_corollaries.proofs.Numbers.{zero_is_started}
-use Rattle.host_corollaries.proofs.Twice.{begins_below, picks_below}
+use Rattle.host_corollaries.proofs.Twice.{picks_below}
 
 -- a search that a host was given is the one that it lends
 
@@ -38,39 +38,25 @@ search_back : (s : Search) → search_in (host_search_of s) ≡ s
 search_back s = ap (λ (b : Bool). record { best = s.best; held = b; path = s.path; opened = s.opened; picks = s.picks }) (flag_back s.held)
 
 -- an accepted start's struct stands for its search
-started_search : (x : Start.Started) (t : Def.Search) (old s : HostSearch) → x ≡ started t → s ≡ host_search_after (started_from x).verdict (started_from x).search old → (started_from x).search ≡ search_in s
+started_search : (x : Start.Started) (t : Def.Search) (old s : HostSearch) → x ≡ started t → s ≡ host_search_after (started_from x) old → Ok (search_in s) ≡ started_from x
 started_search (Start.refused n) t old s e h = let z : ◌≡◌ {A = ℕ} 0 1 = cc in absurd (omega arith)
-started_search (started u) t old s e h = sym (ap search_in h ∙ search_back (search_from u))
+started_search (started u) t old s e h = ap Ok (ap search_in h ∙ search_back (search_from u))
 
--- a refused pick keeps the search
-search_kept : (q : Pick.Asked) (t : Def.Search) (h : Pick.Held) (n : ℕ) (r : Pick.After) → Went q t h r → r.answer ≡ refused_by n → r.search ≡ t
-unfolding refusing accepting
-search_kept q t h n r (early k e) f = refl
-search_kept q t h n r (halted k y e) f = refl
-search_kept q t h n r (outgrown c y e o) f = refl
-search_kept q t h n r (dropped y low) f = let z : ◌≡◌ {A = ℕ} 0 1 = cc in absurd (omega arith)
-search_kept q t h n r (grown c y e l) f = let z : ◌≡◌ {A = ℕ} 0 1 = cc in absurd (omega arith)
-
--- so a pick's struct stands for the search after it, accepted or refused
-module _ (q : Pick.Asked) (old s : HostSearch) (h : Pick.Held) where
-  abbrev after : Pick.After
-  after = pick q (search_of (search_in old)) h
-
-  picked_search : (x : Pick.Picked) → after.answer ≡ x → s ≡ host_search_after (picked_from x after.search).verdict (picked_from x after.search).search old → (picked_from x after.search).search ≡ search_in s
-  picked_search (refused_by n) e k = ap search_from (search_kept q (search_of (search_in old)) h n after (went q (search_of (search_in old)) h) e) ∙ ap search_in (sym k)
-  picked_search accepted e k = sym (ap search_in k ∙ search_back (search_from after.search))
+-- a pick's struct stands for the search after it, accepted or refused
+picked_search : (x : Pick.Picked) (t : Def.Search) (old s : HostSearch) → s ≡ host_search_after (picked_from x t) old → search_after (picked_from x t) (search_in old) ≡ search_in s
+picked_search (refused_by n) t old s h = ap search_in (sym h)
+picked_search accepted t old s h = sym (ap search_in h ∙ search_back (search_from t))
 
 pub calls_of : {b : Blocks} {bound : ℤ} {most : ℕ} {s : HostSearch} {list : List Record} → HostCalls b bound most s list → Calls b bound most (search_in s) list
 calls_of {b} {bound} {most} (Hosting.begins width list list' old s h) =
     let d = start (problem_at b width) bound (places list) in
     let t = (zero_is_started (problem_at b width) bound (places list) 0 old s (places list') h).0 refl in
-    subst (λ (x : Search). Calls b bound most x list') (started_search d.answer t.0 old s t.1 h.search_is)
-    (Calling.begins width list list' (started_from d.answer) (begins_below d 0 old s (places list') h) (ap (λ (x : Start.Started). (started_from x).verdict) t.1))
+    Calling.begins width list list' (search_in s) (record { answered = started_search d.answer t.0 old s t.1 h.search_is; written = h.list_is })
 calls_of {b} {bound} {most} (Hosting.goes_on {old} {list} c terms place lent lent' scratch scratch' ns es ns' es' n s page same few h) =
     let q = asked_in b.weights b.profits (ask_in terms) place in
     let k = held_in (places lent) ns es scratch in
     let d = pick q (search_of (search_in old)) k in
-    subst (λ (x : Search). Calls b bound most x lent') (picked_search q old s k d.answer refl h.search_is)
+    subst (λ (x : Search). Calls b bound most x lent') (picked_search d.answer d.search old s h.search_is)
     (Calling.goes_on (calls_of c) (ask_in terms) place lent lent' scratch scratch' ns es ns' es' (picked_from d.answer d.search) page same few (picks_below d n old s ns' es' (places lent') scratch' h))
 
 -- ---- demand 3 for a host's calls

@@ -49,7 +49,7 @@ first_numbered (c ∷ cs) h n e =
 -- ---- a refused compile
 
 module _ (q : Request) (l : Lent) (n : ℕ) where
-  zero_compiled : (x : Call.Answer) → (compile q l).answer ≡ x → n ≡ number_of (answer_from x).verdict
+  zero_compiled : (x : Call.Answer) → (compile q l).answer ≡ x → n ≡ number_of (answer_from x)
       → (n ≡ 0 → (c : Compiled) × ((compile q l).answer ≡ compiled c)) × ((c : Compiled) → (compile q l).answer ≡ compiled c → n ≡ 0)
   zero_compiled (refused k) e m = ((λ z. absurd (omega (arith, m, z, (compile_numbers q l k e).0))), (λ c f. let z : ◌≡◌ {A = ℕ} 0 1 = cc in absurd (omega arith)))
   zero_compiled (compiled c) e m = ((λ z. (c, e)), (λ c f. m))
@@ -68,7 +68,7 @@ start_number p bound list n e = by_refusal (start_refusal p (length list)) refl 
     by_refusal none r q = let z : ◌≡◌ {A = ℕ} 0 1 = cc in absurd (omega arith)
 
 module _ (p : Problem) (bound : ℤ) (list : List Place) (n : ℕ) where
-  zero_started : (x : Start.Started) → (start p bound list).answer ≡ x → n ≡ number_of (started_from x).verdict
+  zero_started : (x : Start.Started) → (start p bound list).answer ≡ x → n ≡ number_of (started_from x)
       → (n ≡ 0 → (t : Search) × ((start p bound list).answer ≡ started t)) × ((t : Search) → (start p bound list).answer ≡ started t → n ≡ 0)
   zero_started (Start.refused k) e m = ((λ z. absurd (omega (arith, m, z, start_number p bound list k e))), (λ t f. let z : ◌≡◌ {A = ℕ} 0 1 = cc in absurd (omega arith)))
   zero_started (started t) e m = ((λ z. (t, e)), (λ t f. m))
@@ -87,7 +87,7 @@ went_number q t h n r (dropped y low) f = let z : ◌≡◌ {A = ℕ} 0 1 = cc i
 went_number q t h n r (grown c y e l) f = let z : ◌≡◌ {A = ℕ} 0 1 = cc in absurd (omega arith)
 
 module _ (q : Pick.Asked) (t : Search) (h : Pick.Held) (n : ℕ) where
-  zero_picked : (x : Pick.Picked) → (pick q t h).answer ≡ x → n ≡ number_of (picked_from x (pick q t h).search).verdict → (n ≡ 0 → (pick q t h).answer ≡ accepted) × ((pick q t h).answer ≡ accepted → n ≡ 0)
+  zero_picked : (x : Pick.Picked) → (pick q t h).answer ≡ x → n ≡ number_of (picked_from x (pick q t h).search) → (n ≡ 0 → (pick q t h).answer ≡ accepted) × ((pick q t h).answer ≡ accepted → n ≡ 0)
   zero_picked (refused_by k) e m = ((λ z. absurd (omega (arith, m, z, went_number q t h k (pick q t h) (went q t h) e))), (λ f. let z : ◌≡◌ {A = ℕ} 0 1 = cc in absurd (omega arith)))
   zero_picked accepted e m = ((λ z. e), (λ f. m))
 

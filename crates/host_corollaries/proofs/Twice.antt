@@ -2,6 +2,7 @@
 use mathlib.Core.Path.{◌≡◌, refl, sym, ap, ap₂, subst, ◌∙◌}
 use mathlib.Core.List.{List, [], ◌∷◌}
 use mathlib.Core.Option.{Option, none, some}
+use Rattle.std.specs.Prelude.{Result}
 use Prim.Native.Nat.{ℕ}
 use lib.IntN.{ℤ}
 use lib.ListN.{length}
@@ -14,8 +15,7 @@ use Rattle.searches.specs.Start as Start
 use Rattle.searches.specs.Start.{start_refusal, unless, start}
 use Rattle.searches.specs.Pick as Pick
 use Rattle.searches.specs.Pick.{pick}
-use Rattle.search.specs.declared.Started.{Started}
-use Rattle.search.specs.declared.Picked.{Picked}
+use Rattle.search.specs.declared.Search as Code
 use Rattle.search.specs.Answered.{started_from, picked_from}
 use Rattle.search.specs.Begins.{Begins}
 use Rattle.search.proofs.Twice.{starts_alike}
@@ -74,16 +74,16 @@ pub one_start : OneStart
 one_start p bound l l' long n n' old s s' m m' h k =
     let same = (starts_alike p bound _ _ l m l' m' long (begins_below (start p bound l) n old s m h) (begins_below (start p bound l') n' old s' m' k)).answers in
     let z = placed p bound l l' long in (
-      h.number_is ∙ ap (λ (a : Started). number_of a.verdict) same ∙ sym k.number_is,
-      h.search_is ∙ ap (λ (a : Started). host_search_after a.verdict a.search old) same ∙ sym k.search_is,
+      h.number_is ∙ ap (λ (a : Result Code.Search ℕ). number_of a) same ∙ sym k.number_is,
+      h.search_is ∙ ap (λ (a : Result Code.Search ℕ). host_search_after a old) same ∙ sym k.search_is,
       record { placed = z.placed; first = h.list_is ∙ z.first; second = k.list_is ∙ z.second },
     )
 
 pub one_pick : OnePick
 one_pick q t h k input n n' old s s' ns es r ns' es' r' l l' x y =
     let z = Below.one_pick q t h k input _ _ ns es r ns' es' r' l l' (picks_below (pick q t h) n old s ns es l r x) (picks_below (pick q t k) n' old s' ns' es' l' r' y) in (
-      x.number_is ∙ ap (λ (a : Picked). number_of a.verdict) z.answers ∙ sym y.number_is,
-      x.search_is ∙ ap (λ (a : Picked). host_search_after a.verdict a.search old) z.answers ∙ sym y.search_is,
+      x.number_is ∙ ap (λ (a : Result Code.Search ℕ). number_of a) z.answers ∙ sym y.number_is,
+      x.search_is ∙ ap (λ (a : Result Code.Search ℕ). host_search_after a old) z.answers ∙ sym y.search_is,
       effect_left z.placed z.written (held_in l ns es r) (held_in l' ns' es' r') h k z.first_list z.first_lent z.second_list z.second_lent,
     )
 

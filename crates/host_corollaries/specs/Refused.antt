@@ -1,5 +1,5 @@
 -- What a call that didn't return 0 leaves: a compile an answer all 0, a start or a pick the search and the list as they were.
-use Rattle.std.specs.Prelude.{◌≡◌, List, ◌≢◌, ℕ, ℤ, pos, replicate}
+use Rattle.std.specs.Prelude.{◌≡◌, List, ◌≢◌, ℕ, ℤ}
 use Rattle.calls.specs.Asked.{Problem}
 use Rattle.calls.specs.Compile.{Request, Lent, compile}
 use Rattle.searches.specs.Places.{Place}
@@ -9,27 +9,10 @@ use Rattle.searches.specs.Pick as Pick
 use Rattle.searches.specs.Pick.{pick}
 use Rattle.border.specs.declared.Found.{Found}
 use Rattle.border.specs.declared.HostSearch.{HostSearch}
+use Rattle.border.specs.Border.{nothing_found}
 use Rattle.host.specs.Promises.{CompilesFor, StartsFor, PicksFor}
 
 -- 'A refusing compile gives its number alone.'
-abbrev pub nothing_found : Found
-nothing_found =
-    record {
-      exact = 0;
-      has_best = 0;
-      best = pos 0;
-      path = replicate 64 0;
-      has_best_exact = 0;
-      best_exact = pos 0;
-      exact_path = replicate 64 0;
-      nodes = 0;
-      edges = 0;
-      drained = 0;
-      layers = 0;
-      from = replicate 65 0;
-      to = replicate 65 0;
-    }
-
 abbrev pub RefusedCompileFindsNothing : Type 0
 RefusedCompileFindsNothing = (q : Request) (l : Lent) (n : ℕ) (found : Found) (ns es rs : List ℕ) → CompilesFor (compile q l) n found ns es rs → n ≢ 0 → found ≡ nothing_found
 

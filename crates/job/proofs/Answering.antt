@@ -1,8 +1,9 @@
 -- The answer that `run_job` writes is the answer of the text's job, or `refused` and 15 where no job has the text; and it leaves what that job's run leaves.
 use mathlib.Core.Path.{◌≡◌, refl, sym, ap, subst, ◌∙◌}
-use mathlib.Core.Bool.{Bool, true, false, not}
+use mathlib.Core.Bool.{Bool, true, false, not, cond}
 use mathlib.Core.List.{List, [], ◌∷◌, map}
 use mathlib.Core.Option.{Option, some}
+use Rattle.std.specs.Prelude.{Result, Ok, Err}
 use Prim.Native.Nat.{ℕ, zero, suc, ◌<◌, ◌≤◌, min}
 use native.Mathlib.Omega.{arith}
 use lib.Dec.{leb}
@@ -21,23 +22,24 @@ use Rattle.cutset.specs.Whole.{kind_of}
 use Rattle.searches.specs.Places.{Place}
 use Rattle.searches.specs.Pick.{Held}
 use Rattle.searches.specs.Start.{start_refusal, unless, start}
-use Rattle.search.specs.declared.Picked.{Picked}
+use Rattle.search.specs.declared.Search.{Search}
+use Rattle.search.specs.Held.{search_of}
 use Rattle.search.specs.Asked.{problem_of}
 use Rattle.search.proofs.Firsts.{start_before}
 use Rattle.jobs.specs.Text.{Job, IsText}
 use Rattle.jobs.specs.Run as Def
-use Rattle.jobs.specs.Run.{refused, started_on, run_of, run}
+use Rattle.jobs.specs.Run.{Ending, refused, ended, started_on, run_of, run}
 use Rattle.jobs.specs.Left.{Left, left, started_leaves, run_leaves, left_of, left_by}
-use Rattle.jobs.specs.Page.{refusal_of, answer_of}
+use Rattle.jobs.specs.Page.{answer_of}
 use Rattle.page_text.specs.declared.Output.{Output}
 use Rattle.page_text.specs.Says.{Says}
-use Rattle.job_text.specs.declared.ReadJob.{ReadJob}
+use Rattle.job_text.specs.declared.Job as Code
 use Rattle.job_text.specs.Kept.{room, weights_in, profits_in}
 use Rattle.job_text.specs.Reads.{kind_from, read_of, Reads}
 use Rattle.job_text.proofs.Accepted.{kind_back}
-use Rattle.job_run.specs.Runs.{ending_of, left_in}
-use Rattle.job.specs.Answered.{left_read, runs, unread_number, left_if, Answers, Leaves, LeavesLent, empty_places}
-use Rattle.job.proofs.Steps.{runs_none}
+use Rattle.job_run.specs.Runs.{left_in}
+use Rattle.job.specs.declared.Ran.{Ran}
+use Rattle.job.specs.Answered.{left_read, left_if, ending_of, text_of, Runs, Answers, Leaves, LeavesLent, empty_places}
 
 -- ---- the items that were kept
 
@@ -92,44 +94,73 @@ module _ (j : Job) (h : Held) where
       sym (start_refused p j.kind h 2 (start_before p (length h.list) 2 (too_many p (w ∙ sym f) (omega (arith, w, lt)))))
 
   -- what was read is run as the job is
-  as_run : left_if (runs (read_of j)) (read_of j) h ≡ left_by j h
+  as_run : left_if (Ok (read_of j)) h ≡ left_by j h
   unfolding read_of
-  as_run = by_test (λ b. left_if b (read_of j) h ≡ left_by j h) (leb (length j.items) 64) (λ t. as_read j h (leb-true (length j.items) 64 t)) (λ t. refused_many (leb-false (length j.items) 64 t))
+  as_run = by_test (λ b. cond b (left_read (read_of j) h) (left (refused 2) h) ≡ left_by j h) (leb (length j.items) 64) (λ t. as_read j h (leb-true (length j.items) 64 t)) (λ t. refused_many (leb-false (length j.items) 64 t))
 
--- ---- the whole
+-- ---- the run of a text
 
--- what the run of a text's job leaves, or of a text that no job has
-module _ (text : List ℕ) (h : Held) (r : ReadJob) (p : Picked) (after : Held) (read : Reads text r) (e : left_in p after ≡ left_if (runs r) r h) where
-  pub left_job : (j : Job) → IsText text j → left_in p after ≡ left_by j h
-  left_job j is = e ∙ ap (λ (x : ReadJob). left_if (runs x) x h) (read.job_read j is) ∙ as_run j h
+-- a run's answer with the number of its job's items
+abbrev pub with_items : ℕ → Result Search ℕ → Result Ran ℕ
+with_items n (Ok s) = Ok (record { items = n; search = s })
+with_items n (Err k) = Err k
 
-  left_by_lem : ((j : Job) → IsText text j → ⊥) → (b : Bool) → r.ok ≡ b → left_in p after ≡ left (refused 15) h
-  left_by_lem none true ok = let f = read.found ok in absurd (none f.job f.has_text)
-  left_by_lem none false unread = e ∙ ap (λ (b : Bool). left_if b r h) (sym (runs_none r unread)) ∙ ap (λ (b : Bool). left (refused (unread_number b)) h) unread
+same_ending : (n : ℕ) (s : Result Search ℕ) (after : Held) → left (ending_of (with_items n s)) after ≡ left_in s after
+same_ending n (Ok s) after = refl
+same_ending n (Err k) after = refl
 
-  pub left_outside : ((j : Job) → IsText text j → ⊥) → left_in p after ≡ left (refused 15) h
-  left_outside none = left_by_lem none r.ok refl
+has_items : (n : ℕ) (s : Result Search ℕ) (t : Ran) → with_items n s ≡ Ok t → t.items ≡ n
+has_items n (Ok s) t e = let same : ◌≡◌ {A = Ran} (record { items = n; search = s }) t = cc in sym (ap (λ (x : Ran). x.items) same)
+has_items n (Err k) t e = let z : ◌≡◌ {A = ℕ} 0 1 = cc in absurd (omega arith)
+
+module _ (text : List ℕ) (h : Held) where
+  -- a text that was not read is run as what it is
+  pub unread : (n : ℕ) → Reads text (Err n) → Runs text h (Err n) h
+  unread n read =
+      record {
+        of_job = λ j is. let e = read.job_read j is in absurd (let z : ◌≡◌ {A = ℕ} 0 1 = cc in omega arith);
+        outside = λ none. (ap Err (read.outside n refl).1, refl);
+      }
+
+  -- one that was read is run as its job is
+  pub ran : (c : Code.Job) → Reads text (Ok c) → (s : Result Search ℕ) (after : Held) → left_in s after ≡ left_if (Ok c) h → Runs text h (with_items c.count s) after
+  unfolding read_of
+  ran c read s after e =
+      record {
+        of_job = λ j is.
+            let read_as : ◌≡◌ {A = Result Code.Job ℕ} (Ok c) (Ok (read_of j)) = read.job_read j is in
+            let same : c ≡ read_of j = cc in
+            record {
+              ends = same_ending c.count s after ∙ e ∙ ap (λ (x : Code.Job). left_if (Ok x) h) same ∙ as_run j h;
+              counted = λ t f. has_items c.count s t f ∙ ap (λ (x : Code.Job). x.count) same;
+            };
+        outside = λ none. let f = read.found c refl in absurd (none f.job f.has_text);
+      }
+
+-- ---- what a run's answer and what it leaves are to its text
+
+text_is : (r : Result Ran ℕ) (n : ℕ) → ((s : Ran) → r ≡ Ok s → s.items ≡ n) → text_of r ≡ answer_of n (ending_of r)
+unfolding answer_of
+text_is (Ok s) n counted = ap (λ (k : ℕ). answer_of k (ended (search_of s.search))) (counted s refl)
+text_is (Err k) n counted = refl
+
+module _ (text : List ℕ) (h : Held) (r : Result Ran ℕ) (after : Held) (x : Runs text h r after) where
+  pub ends_job : (j : Job) → IsText text j → ending_of r ≡ run j h.lent h.list
+  ends_job j is = ap (λ (y : Left). y.ending) (x.of_job j is).ends
+
+  pub ends_outside : ((j : Job) → IsText text j → ⊥) → ending_of r ≡ refused 15
+  ends_outside none = ap ending_of (x.outside none).0
 
   pub leaves : Leaves text h after
-  leaves = record { of_job = λ j is. ap (λ (x : Left). x.held) (left_job j is); outside = λ none. ap (λ (x : Left). x.held) (left_outside none) }
+  leaves = record { of_job = λ j is. ap (λ (y : Left). y.held) (x.of_job j is).ends; outside = λ none. (x.outside none).1 }
 
-  -- and what is written of it
-  module _ (o : Output) (said : Says (answer_of r.count (ending_of p)) 671 o) where
-    count_job : (j : Job) → r ≡ read_of j → r.count ≡ length j.items
-    unfolding read_of
-    count_job j is = ap (λ (x : ReadJob). x.count) is
-
-    says_job : (j : Job) → IsText text j → Says (answer_of (length j.items) (run j h.lent h.list)) 671 o
-    says_job j is =
-        subst (λ (t : List ℕ). Says t 671 o)
-        (ap (λ (n : ℕ). answer_of n (ending_of p)) (count_job j (read.job_read j is)) ∙ ap (λ (x : Left). answer_of (length j.items) x.ending) (left_job j is)) said
-
-    says_outside : ((j : Job) → IsText text j → ⊥) → Says (refusal_of 15) 671 o
-    unfolding answer_of
-    says_outside none = subst (λ (t : List ℕ). Says t 671 o) (ap (λ (x : Left). answer_of r.count x.ending) (left_outside none)) said
-
-    pub answers : Answers text h.lent h.list o
-    answers = record { of_job = says_job; outside = says_outside }
+  pub answers : (o : Output) → Says (text_of r) 671 o → Answers text h.lent h.list o
+  answers o said =
+      record {
+        of_job = λ j is.
+            subst (λ (t : List ℕ). Says t 671 o) (text_is r (length j.items) (x.of_job j is).counted ∙ ap (answer_of (length j.items)) (ends_job j is)) said;
+        outside = λ none. subst (λ (t : List ℕ). Says t 671 o) (ap text_of (x.outside none).0) said;
+      }
 
 -- ---- over the first places of a list that is empty
 

@@ -1,89 +1,52 @@
 // A job's text in, its answer out: the text is read, the search run over lent tables and lists, and the answer written.
 #![tactic(auto)]
 
-ghost use Rattle.std.specs.Prelude.{◌≡◌, ◌≤◌, min};
+ghost use Rattle.std.specs.Prelude.{◌≡◌, min};
+ghost use Rattle.reasons.specs.Numbers.{numbered};
 ghost use Rattle.records.specs.Structs.{places};
 ghost use Rattle.compile.specs.Asked.{lent_of};
-ghost use Rattle.jobs.specs.Page.{answer_of};
 ghost use Rattle.page_text.specs.Says.{Says};
 ghost use Rattle.pick_steps.specs.Tried.{held_in};
-ghost use Rattle.job_run.specs.Runs.{ending_of, left_in};
-ghost use Rattle.job.specs.Answered.{left_read, runs, unread_of, left_if, Writable, Answers, Leaves, LeavesLent, empty_places};
+ghost use Rattle.job_run.specs.Runs.{left_in};
+ghost use Rattle.job.specs.Answered.{left_if, text_of, Runs, Writable, Answers, Leaves, LeavesLent, empty_places};
 
-use job_text::ReadJob;
+use job_text::Job;
 use page_text::Output;
+use reasons::Refusal;
 use records::Record;
-use refusals::Verdict;
-use search::{Ask, Picked};
+use search::{Ask, Search};
 
-// Whether a job was read that is run: one of more than 64 items isn't.
-fn is_run(r: ReadJob) -> bool
-    ensures { result ≡ runs r }
-{
-    if r.ok { r.count <= 64 } else { false }
+// A run that no refusal ended: how many items its job has, and the search that it came to.
+#[derive(Clone, Copy)]
+pub struct Ran {
+    pub items: usize,
+    pub search: Search,
 }
 
-// Why no job is run: 15 for a text outside the grammar, 2 for too many items.
-fn unread(r: ReadJob) -> Picked
-    ensures { result ≡ unread_of r }
-{
-    let number = if r.ok { 2 } else { 15 };
-    let search = search::no_search();
-    Picked {
-        verdict: Verdict::Refused(number),
-        search: search,
-    }
-}
-
-// How the search is asked.
-fn ask_of(r: ReadJob) -> Ask
-    ensures { (result.page ≡ r.page) × ((result.width ≡ r.width) × (result.kind ≡ r.kind)) }
-{
-    let kind = r.kind;
-    Ask {
-        page: r.page,
-        width: r.width,
-        kind: kind,
-    }
-}
-
-fn weights_of(r: ReadJob) -> [u64; 64]
-    ensures { result ≡ r.weights }
-{
-    r.weights
-}
-
-fn profits_of(r: ReadJob) -> [u64; 64]
-    ensures { result ≡ r.profits }
-{
-    r.profits
-}
-
-fn count_of(r: ReadJob) -> usize
-    ensures { result ≡ r.count }
-{
-    r.count
-}
-
-// The run of a job that was read, over the first places for its items.
-fn run_items(
-    r: ReadJob,
+// The run of a job that was read, over the first places for its items. What refused the reading refuses the run, and one of more than 64 items is refused: all that is lent is as it was.
+// Four slices lent one by one, here and below: `job_run::run` has the reason.
+pub fn run_if(
+    read: Result<Job, Refusal>,
     nodes: &mut [u64],
     edges: &mut [u64],
     list: &mut [Record],
     scratch: &mut [u64],
-) -> Picked
-    requires { r.count ≤ 64 }
-    ensures { left_in result (held_in (places list.new) nodes.new edges.new scratch.new) ≡ left_read r
+) -> Result<Search, Refusal>
+    ensures { left_in (numbered result) (held_in (places list.new) nodes.new edges.new scratch.new) ≡ left_if (numbered read)
         (held_in (places list.old) nodes.old edges.old scratch.old) }
 {
-    let weights = weights_of(r);
-    let profits = profits_of(r);
-    let n = count_of(r);
-    let ask = ask_of(r);
+    let job = read?;
+    if job.count > 64 {
+        return Err(Refusal::TooManyItems);
+    }
+    let ask = Ask {
+        page: job.page,
+        width: job.width,
+        kind: job.kind,
+    };
     job_run::run(
-        &weights[..n],
-        &profits[..n],
+        &job.weights[..job.count],
+        &job.profits[..job.count],
         nodes,
         edges,
         list,
@@ -92,37 +55,34 @@ fn run_items(
     )
 }
 
-// The run of a job that was read, or why there is none. As in a run, nothing is promised of a refused one's search.
-pub fn run_if(
-    r: ReadJob,
+// The run of the job that a text is of, or why there is none.
+pub fn run_text(
+    text: &[u8],
     nodes: &mut [u64],
     edges: &mut [u64],
     list: &mut [Record],
     scratch: &mut [u64],
-) -> Picked
-    ensures { left_in result (held_in (places list.new) nodes.new edges.new scratch.new) ≡ left_if (runs r) r
-        (held_in (places list.old) nodes.old edges.old scratch.old) }
+) -> Result<Ran, Refusal>
+    ensures runs { Runs text.now (held_in (places list.old) nodes.old edges.old scratch.old) (numbered result)
+        (held_in (places list.new) nodes.new edges.new scratch.new) }
+    ensures writable { Writable (numbered result) }
 {
-    if is_run(r) {
-        run_items(r, nodes, edges, list, scratch)
-    } else {
-        unread(r)
-    }
+    let job = job_text::read(text)?;
+    let search = run_if(Ok(job), nodes, edges, list, scratch)?;
+    Ok(Ran {
+        items: job.count,
+        search,
+    })
 }
 
-// The answer that is written.
-pub fn answer_of(r: ReadJob, p: Picked) -> Output
-    requires { Writable r p }
-    ensures { Says (answer_of r.count (ending_of p)) 671 result }
+// The answer that is written of a run.
+pub fn written(ran: Result<Ran, Refusal>) -> Output
+    requires { Writable (numbered ran) }
+    ensures { Says (text_of (numbered ran)) 671 result }
 {
-    let verdict = p.verdict;
-    match verdict {
-        Verdict::Refused(n) => page_text::refusal(n),
-        Verdict::Accepted => {
-            let s = p.search;
-            let path = s.path;
-            page_text::page(s.best, path, r.count, s.picks)
-        }
+    match ran {
+        Ok(Ran { items, search }) => page_text::page(search.best, search.path, items, search.picks),
+        Err(refusal) => page_text::refusal(refusal.number()),
     }
 }
 
@@ -138,15 +98,8 @@ pub fn run_job(
         × Leaves text.now (held_in (places list.old) nodes.old edges.old scratch.old)
         (held_in (places list.new) nodes.new edges.new scratch.new) }
 {
-    let r = job_text::read(text);
-    let p = run_if(r, nodes, edges, list, scratch);
-    answer_of(r, p)
-}
-
-fn smaller(a: usize, b: usize) -> usize
-    ensures { result ≡ min a b }
-{
-    if a < b { a } else { b }
+    let ran = run_text(text, nodes, edges, list, scratch);
+    written(ran)
 }
 
 // The same over an open list of its own: so many places, all empty, and no more than 16,384. One function for programs of all sizes.
@@ -163,6 +116,6 @@ pub fn answer(
 {
     let none = records::empty();
     let mut list = [none; 16384];
-    let n = smaller(open_places, 16384);
+    let n = open_places.min(16384);
     run_job(text, nodes, edges, &mut list[..n], scratch)
 }

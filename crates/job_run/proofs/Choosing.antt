@@ -1,5 +1,5 @@
 -- The place of the largest bound, one record after the other.
---     largest_none     of no records
+--     largest_one      of the first record, if there is one
 --     largest_more     of one record more: the larger of the two bounds
 --     largest_few      it is no further than the records
 use mathlib.Core.Path.{◌≡◌, refl, sym, ap, ◌∙◌}
@@ -9,7 +9,7 @@ use Prim.Native.Nat.{ℕ, suc, ◌+◌, ◌<◌, ◌≤◌}
 use native.Mathlib.Omega.{arith}
 use lib.IntN.{ℤ}
 use lib.ListN.{length, get_or, take, length-take}
-use lib.Seq.{take-suc, get_or-take, length-take-le}
+use lib.Seq.{take-suc, take_all, get_or-take, length-take-le}
 use lib.Signed.{lt_z}
 use Rattle.std.proofs.lemmas.List.{get_or_default}
 use Rattle.searches.specs.Places.{Place}
@@ -116,9 +116,10 @@ module _ (whole : List Place) (none : Place) where
 
 -- ---- among the first records of a list
 
-pub largest_none : (rs : List Record) → 0 ≡ largest (take 0 (places rs))
-unfolding largest
-largest_none rs = refl
+pub largest_one : (rs : List Record) → 0 ≡ largest (take 1 (places rs))
+unfolding largest largest_from places
+largest_one [] = refl
+largest_one (r ∷ rs) = refl
 
 first_ones_lem : (none : Place) (ps : List Place) (j : ℕ) → LiesAt ps none 0 (take j ps)
 first_ones_lem none ps j i h =
@@ -163,10 +164,14 @@ largest_next rs j best d e h b =
     let l : m < length rs = omega (arith, largest_few rs j, h) in
     rw (b, get_or_default rs m d no_record l, get_or_default rs j e no_record h) (largest_more rs j h)
 
--- ---- the larger of two; the code compares bits, whose numbers x and y are
-module _ (best at : ℕ) (first other : Record) (x y : ℤ) (is_first : x ≡ first.bound) (is-other : y ≡ other.bound) where
-  pub is_larger : lt_z x y ≡ true → at ≡ larger best at first other
-  is_larger e = let z : lt_z first.bound other.bound ≡ true = rw (← is_first, ← is-other) e in sym (ap (λ (b : Bool). chosen b at best) z)
+-- and of all records
+pub largest_whole : (rs : List Record) (j best : ℕ) → length rs ≤ j → best ≡ largest (take j (places rs)) → best ≡ largest (places rs)
+largest_whole rs j best all b = b ∙ ap largest (take_all j (places rs) (omega (arith, places_length rs)))
 
-  pub not_larger : lt_z x y ≡ false → best ≡ larger best at first other
-  not_larger e = let z : lt_z first.bound other.bound ≡ false = rw (← is_first, ← is-other) e in sym (ap (λ (b : Bool). chosen b at best) z)
+-- ---- the larger of two, by the test t
+module _ (best at : ℕ) (first other : Record) (t : Bool) (is : t ≡ lt_z first.bound other.bound) where
+  pub is_larger : t ≡ true → at ≡ larger best at first other
+  is_larger e = ap (λ (b : Bool). chosen b at best) (sym e ∙ is)
+
+  pub not_larger : t ≡ false → best ≡ larger best at first other
+  not_larger e = ap (λ (b : Bool). chosen b at best) (sym e ∙ is)

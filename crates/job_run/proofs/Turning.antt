@@ -1,11 +1,10 @@
 -- A run turn by turn, on the definitions alone: what its picks still come to, and leave, stays what the whole run comes to and leaves.
---     Going        what is known before each turn
---     begins       it holds after the start
---     turned       it holds after a turn, with a turn less to go
---     asks         what a turn asks of the list's length
---     is_over      where no turn follows, the answer is the run's, and so is what lists and tables hold
---     picks_largest     what `turn` promises, from what it calls
---     turns_left   how many turns are left after a call: `first_left` and `turned_left` are `begins` and `turned` at that number
+--     GoesOn           what is known before each turn
+--     picks_largest    a turn's pick is that of the largest bound
+--     turns_left       how many turns are left, by the picks that were counted
+--     first_left, first_refused      the picks go on after the start, or the run ends
+--     turned_left, turned_refused    they go on after a turn, with fewer turns left, or the run ends
+--     is_over          where no record is open, the answer is the run's, and so is what lists and tables hold
 use mathlib.Core.Path.{◌≡◌, refl, sym, ap, ap₂, subst, ◌∙◌}
 use mathlib.Core.Logic.{◌≢◌}
 use mathlib.Core.Bool.{Bool, true, false}
@@ -17,15 +16,17 @@ use lib.Dec.{leb, eqb}
 use lib.IntN.{ℤ}
 use lib.ListN.{length, take, drop, length-append}
 use lib.Signed.{lt_z}
-use borrow.Author.Tests.{ltb-true, ltb-false, eq-eqb, ne_eqb}
+use borrow.Author.Tests.{eq-eqb, ne_eqb}
+use Rattle.std.specs.Prelude.{Result, Ok, Err}
 use Rattle.words.specs.I64.{i64_min}
 use Rattle.diagram.specs.After4.{CutsetKind}
 use Rattle.calls.specs.Asked.{Problem, Given}
 use Rattle.calls.specs.Compile as Call
 use Rattle.calls.specs.Compile.{Lent, rooms_of, refused, compiled, Effect, compile_effect}
 use Rattle.compile.specs.Asked.{lent_of}
-use Rattle.refusals.specs.declared.Verdict.{Verdict}
-use Rattle.refusals.specs.declared.Verdict.TheVariants.{Accepted, Refused}
+use Rattle.records.specs.declared.Record.{Record}
+use Rattle.records.specs.Structs.{places}
+use Rattle.records.proofs.Places.{places_take}
 use Rattle.searches.specs.Places.{Place, over_places}
 use Rattle.searches.specs.Search as Def
 use Rattle.searches.specs.Search.{most_picks, open_in, without}
@@ -34,8 +35,6 @@ use Rattle.searches.specs.Start.{start, begun}
 use Rattle.searches.specs.Pick as Pick
 use Rattle.searches.specs.Pick.{Asked, Held, After, refused_by, accepted, pick_refusal, picked_from, request_for, refusing, accepting, better, one_pick_more, if_room, appended, drained_places, after_compile, if_above, unless, pick}
 use Rattle.search.specs.declared.Search.{Search}
-use Rattle.search.specs.declared.Started.{Started}
-use Rattle.search.specs.declared.Picked.{Picked}
 use Rattle.search.specs.Held.{search_of}
 use Rattle.search.specs.Answered as Code
 use Rattle.search.specs.Answered.{started_from}
@@ -50,8 +49,8 @@ use Rattle.pick.specs.Picks.{Picks}
 use Rattle.search_corollaries.proofs.Twice.{picks_alike}
 use Rattle.jobs.specs.Run as Run
 use Rattle.jobs.specs.Run.{Ending, ended, largest, asked_for, unless_refused, picking, all_turns, started_on, run_of}
-use Rattle.jobs.specs.Left.{unless_last, picking_leaves, started_leaves, run_leaves, left}
-use Rattle.job_run.specs.Runs.{picked_of, going_by, is_going, ending_by, left_in}
+use Rattle.jobs.specs.Left.{unless_last, picking_leaves, started_leaves, run_leaves, left, left_of}
+use Rattle.job_run.specs.Runs.{left_in}
 
 -- ---- an accepted pick: the list has its open records, and one pick more is counted
 
@@ -154,7 +153,7 @@ same_rooms ns ns' es es' xs xs' a b c = rw (a, b, c) refl
 -- ---- the run
 
 -- the four slices after a pick are what it leaves
-held_is : (d : After) (r : Picked) (ns es : List ℕ) (list : List Place) (scratch : List ℕ) → Picks d r ns es list scratch → d.held ≡ held_in list ns es scratch
+held_is : (d : After) (r : Result Search ℕ) (ns es : List ℕ) (list : List Place) (scratch : List ℕ) → Picks d r ns es list scratch → d.held ≡ held_in list ns es scratch
 held_is d r ns es list scratch x = rw (x.list_is, x.nodes_are, x.edges_are, x.scratch_is) refl
 
 module _ (p : Problem) (kind : CutsetKind) (l : Lent) (e : Ending) (k : Held) where
@@ -166,29 +165,26 @@ module _ (p : Problem) (kind : CutsetKind) (l : Lent) (e : Ending) (k : Held) wh
     pub left : turns + s.picks ≡ all_turns
     pub countable : s.picks ≤ most_picks
 
-  abbrev pub GoingBy : Verdict → ℕ → Def.Search → Held → Type 0
-  GoingBy (Refused n) turns s h = (e ≡ Run.refused n) × (k ≡ h)
-  GoingBy Accepted turns s h = GoesOn turns s h
-
-  -- before each turn: the last call was refused, and so ends the run, or the picks go on
-  abbrev pub Going : ℕ → Picked → Held → Type 0
-  Going turns c h = GoingBy c.verdict turns (search_of c.search) h
+  -- behind a call: it was refused, and so ended the run, or the picks go on
+  abbrev pub Going : ℕ → Result Search ℕ → Held → Type 0
+  Going turns (Ok s) h = GoesOn turns (search_of s) h
+  Going turns (Err n) h = (e ≡ Run.refused n) × (k ≡ h)
 
   -- ---- after the start
 
-  begun_by : (x : Option ℕ) (list : List Place) (m : Lent) → let d = Start.unless x p i64_min list in e ≡ started_on p kind l d.list d.answer → k ≡ started_leaves p kind (record { list = d.list; lent = m }) d.answer → Going all_turns (picked_of (started_from d.answer)) (record { list = d.list; lent = m })
+  begun_by : (x : Option ℕ) (list : List Place) (m : Lent) → let d = Start.unless x p i64_min list in e ≡ started_on p kind l d.list d.answer → k ≡ started_leaves p kind (record { list = d.list; lent = m }) d.answer → Going all_turns (started_from d.answer) (record { list = d.list; lent = m })
   unfolding Start.unless started_on started_leaves begun over_places
   begun_by (some n) list m h g = (h, g)
   begun_by none list m h g = record { comes_to = h; leaves = g; room = omega arith; left = omega arith; countable = omega arith }
 
-  begun_so : (h : Held) → e ≡ run_of p kind l h.list → k ≡ run_leaves p kind h → Going all_turns (picked_of (started_from (start p i64_min h.list).answer)) (record { list = (start p i64_min h.list).list; lent = h.lent })
+  begun_so : (h : Held) → e ≡ run_of p kind l h.list → k ≡ run_leaves p kind h → Going all_turns (started_from (start p i64_min h.list).answer) (record { list = (start p i64_min h.list).list; lent = h.lent })
   unfolding run_of run_leaves start
   begun_so h x y = begun_by (Start.start_refusal p (length h.list)) h.list h.lent x y
 
-  pub begins : (h : Held) → e ≡ run_of p kind l h.list → k ≡ run_leaves p kind h → (a : Started) (after : List Place) → Begins (start p i64_min h.list) a after → Going all_turns (picked_of a) (record { list = after; lent = h.lent })
+  begins : (h : Held) → e ≡ run_of p kind l h.list → k ≡ run_leaves p kind h → (a : Result Search ℕ) (after : List Place) → Begins (start p i64_min h.list) a after → Going all_turns a (record { list = after; lent = h.lent })
   begins h x y a after z =
-      subst (λ (b : Started). Going all_turns (picked_of b) (record { list = after; lent = h.lent })) (sym z.answered)
-      (subst (λ (ps : List Place). Going all_turns (picked_of (started_from (start p i64_min h.list).answer)) (record { list = ps; lent = h.lent })) (sym z.written) (begun_so h x y))
+      subst (λ (b : Result Search ℕ). Going all_turns b (record { list = after; lent = h.lent })) (sym z.answered)
+      (subst (λ (ps : List Place). Going all_turns (started_from (start p i64_min h.list).answer) (record { list = ps; lent = h.lent })) (sym z.written) (begun_so h x y))
 
   -- ---- a turn
 
@@ -237,12 +233,12 @@ module _ (p : Problem) (kind : CutsetKind) (l : Lent) (e : Ending) (k : Held) wh
     next = next_by d.answer refl
 
   -- the answer r of a turn, what is lent after it, and that a turn less is to go
-  pub record Turned (turns : ℕ) (r : Picked) (after : Held) : Type 0 where
+  pub record Turned (turns : ℕ) (r : Result Search ℕ) (after : Held) : Type 0 where
     pub rest : ℕ
     pub less : rest < turns
     pub going : Going rest r after
 
-  module _ (h : Held) (rooms : rooms_of l ≡ rooms_of h.lent) (r : Picked) (ns es : List ℕ) (after : List Place) (scratch : List ℕ) where
+  module _ (h : Held) (rooms : rooms_of l ≡ rooms_of h.lent) (r : Result Search ℕ) (ns es : List ℕ) (after : List Place) (scratch : List ℕ) where
     turned_on : (turns : ℕ) (s : Def.Search) → GoesOn turns s h → eqb s.opened 0 ≡ false
         → Picks (pick (asked_for p kind s h.list) s h) r ns es after scratch → Turned turns r (held_in after ns es scratch)
     turned_on zero s g o x = absurd (omega (arith, g.left, g.countable))
@@ -252,26 +248,9 @@ module _ (p : Problem) (kind : CutsetKind) (l : Lent) (e : Ending) (k : Held) wh
           rest = turns;
           less = omega arith;
           going =
-              subst (λ (y : Picked). Going turns y (held_in after ns es scratch)) (sym x.answered)
+              subst (λ (y : Result Search ℕ). Going turns y (held_in after ns es scratch)) (sym x.answered)
               (subst (Going turns (Code.picked_from z.answer z.search)) (held_is z r ns es after scratch x) (next turns s h g o rooms));
         }
-
-    turned_by : (v : Verdict) (turns : ℕ) (s : Def.Search) → GoingBy v turns s h → going_by v s.opened ≡ true
-        → Picks (pick (asked_for p kind s h.list) s h) r ns es after scratch → Turned turns r (held_in after ns es scratch)
-    turned_by (Refused n) turns s g o x = let z : ◌≡◌ {A = ℕ} 0 1 = cc in absurd (omega arith)
-    turned_by Accepted turns s g o x = turned_on turns s g (ne_eqb s.opened 0 (λ z. let y = ltb-true 0 s.opened o in absurd (omega (arith, z)))) x
-
-    pub turned : (turns : ℕ) (c : Picked) → Going turns c h → is_going c ≡ true
-        → Picks (pick (asked_for p kind (search_of c.search) h.list) (search_of c.search) h) r ns es after scratch → Turned turns r (held_in after ns es scratch)
-    turned turns c g o x = turned_by c.verdict turns (search_of c.search) g o x
-
-  -- what a turn asks
-  asks_by : (v : Verdict) (turns : ℕ) (s : Def.Search) (h : Held) → GoingBy v turns s h → going_by v s.opened ≡ true → s.opened ≤ length h.list
-  asks_by (Refused n) turns s h g o = let z : ◌≡◌ {A = ℕ} 0 1 = cc in absurd (omega arith)
-  asks_by Accepted turns s h g o = g.room
-
-  pub asks : (turns : ℕ) (c : Picked) (h : Held) → Going turns c h → is_going c ≡ true → c.search.opened ≤ length h.list
-  asks turns c h g o = asks_by c.verdict turns (search_of c.search) h g o
 
   -- ---- the end
 
@@ -285,55 +264,69 @@ module _ (p : Problem) (kind : CutsetKind) (l : Lent) (e : Ending) (k : Held) wh
         ap (λ (b : Bool). elim b [ true ↦ h | false ↦ unless_last f.answer f.held (picking_leaves turns p kind f.search f.held) ]) o,
       )
 
-  over_by : (v : Verdict) (turns : ℕ) (c : Picked) (h : Held) → GoingBy v turns (search_of c.search) h → going_by v c.search.opened ≡ false → (ending_by v c ≡ e) × (h ≡ k)
-  over_by (Refused n) turns c h g o = (sym g.0, sym g.1)
-  over_by Accepted turns c h g o =
-      let z = ltb-false 0 c.search.opened o in
-      let none_open : c.search.opened ≡ 0 = omega (arith, z) in
-      let y = nothing_open turns (search_of c.search) h (eq-eqb c.search.opened 0 none_open) in
-      (sym (g.comes_to ∙ y.0), sym (g.leaves ∙ y.1))
+  -- where no record is open the run has come to its end
+  none_left : (turns : ℕ) (s : Search) (h : Held) → GoesOn turns (search_of s) h → s.opened ≡ 0 → left_in (Ok s) h ≡ left e k
+  none_left turns s h g o =
+      let y = nothing_open turns (search_of s) h (eq-eqb s.opened 0 o) in
+      ap₂ left (sym (g.comes_to ∙ y.0)) (sym (g.leaves ∙ y.1))
 
-  pub is_over : (turns : ℕ) (c : Picked) (h : Held) → Going turns c h → is_going c ≡ false → left_in c h ≡ left e k
-  is_over turns c h g o = let y = over_by c.verdict turns c h g o in ap₂ left y.0 y.1
+  -- a refused call ends it
+  is_refused : (turns n : ℕ) (h : Held) → Going turns (Err n) h → left_in (Err n) h ≡ left e k
+  is_refused turns n h g = ap₂ left (sym g.0) (sym g.1)
 
--- the pick that a turn makes is the definition's: place k is that of the largest bound of the first n, which are the open ones
-module _ (weights profits : List ℕ) (ask : Ask) (c : Picked) (s : Search) (n k : ℕ) (list : List Place) (nodes edges scratch : List ℕ) where
-  pub picks_largest : s ≡ c.search → n ≡ s.opened → k ≡ largest (take n list) → (r : Picked) (ns es : List ℕ) (after : List Place) (left : List ℕ)
-      → Picks (pick (asked_in weights profits ask k) (search_of s) (held_in list nodes edges scratch)) r ns es after left
-      → Picks (pick (asked_for (problem_of weights profits ask.page ask.width) (kind_of ask.kind) (search_of c.search) list) (search_of c.search) (held_in list nodes edges scratch)) r ns es after left
+-- the pick that a turn makes is the definition's: place m is that of the largest bound of the first records, which are the open ones
+module _ (weights profits : List ℕ) (ask : Ask) (s : Search) (m : ℕ) (rs : List Record) (nodes edges scratch : List ℕ) where
+  pub picks_largest : m ≡ largest (places (take s.opened rs)) → (r : Result Search ℕ) (ns es : List ℕ) (after : List Place) (left : List ℕ)
+      → Picks (pick (asked_in weights profits ask m) (search_of s) (held_in (places rs) nodes edges scratch)) r ns es after left
+      → Picks (pick (asked_for (problem_of weights profits ask.page ask.width) (kind_of ask.kind) (search_of s) (places rs)) (search_of s) (held_in (places rs) nodes edges scratch)) r ns es after left
   unfolding asked_for open_in
-  picks_largest searched counted chosen r ns es after left x =
-      let e : k ≡ largest (take c.search.opened list) = chosen ∙ ap (λ (m : ℕ). largest (take m list)) (counted ∙ ap (λ (z : Search). z.opened) searched) in
-      subst (λ (z : Search). Picks (pick (asked_in weights profits ask (largest (take c.search.opened list))) (search_of z) (held_in list nodes edges scratch)) r ns es after left) searched
-      (subst (λ (m : ℕ). Picks (pick (asked_in weights profits ask m) (search_of s) (held_in list nodes edges scratch)) r ns es after left) e x)
+  picks_largest chosen r ns es after left x =
+      subst (λ (n : ℕ). Picks (pick (asked_in weights profits ask n) (search_of s) (held_in (places rs) nodes edges scratch)) r ns es after left)
+      (chosen ∙ ap largest (places_take s.opened rs)) x
 
--- ---- how many turns are left after a call, by what it answered
+-- ---- how many turns are left, by the picks that were counted
 
-abbrev pub turns_by : Verdict → ℕ → ℕ
-turns_by (Refused n) picks = 0
-turns_by Accepted picks = all_turns - picks
+abbrev pub turns_left : Search → ℕ
+turns_left s = all_turns - s.picks
 
-abbrev pub turns_left : Picked → ℕ
-turns_left c = turns_by c.verdict c.search.picks
+-- A run over h₀: what is known before each turn, and what the run's end is to be.
+module _ (p : Problem) (kind : CutsetKind) (h₀ : Held) where
+  abbrev pub Goes : Search → Held → Type 0
+  Goes s h = GoesOn p kind h₀.lent (run_of p kind h₀.lent h₀.list) (run_leaves p kind h₀) (turns_left s) (search_of s) h
 
-module _ (p : Problem) (kind : CutsetKind) (l : Lent) (e : Ending) (k : Held) where
-  settled_by : (v : Verdict) (turns : ℕ) (s : Def.Search) (h : Held) → GoingBy p kind l e k v turns s h → (turns_by v s.picks ≤ turns) × GoingBy p kind l e k v (turns_by v s.picks) s h
-  settled_by (Refused n) turns s h g = (omega arith, g)
-  settled_by Accepted turns s h g =
-      let z : all_turns - s.picks ≡ turns = omega (arith, g.left) in
-      (omega (arith, z), subst (λ (t : ℕ). GoesOn p kind l e k t s h) (sym z) g)
+  abbrev pub Over : Result Search ℕ → Held → Type 0
+  Over r h = left_in r h ≡ left_of p kind h₀
 
-  pub settled : (turns : ℕ) (c : Picked) (h : Held) → Going p kind l e k turns c h → (turns_left c ≤ turns) × Going p kind l e k (turns_left c) c h
-  settled turns c h g = settled_by c.verdict turns (search_of c.search) h g
+  settled : (turns : ℕ) (s : Search) (h : Held) → GoesOn p kind h₀.lent (run_of p kind h₀.lent h₀.list) (run_leaves p kind h₀) turns (search_of s) h → (turns_left s ≡ turns) × Goes s h
+  settled turns s h g =
+      let z : turns_left s ≡ turns = omega (arith, g.left) in
+      (z, subst (λ (t : ℕ). GoesOn p kind h₀.lent (run_of p kind h₀.lent h₀.list) (run_leaves p kind h₀) t (search_of s) h) (sym z) g)
 
-  -- a turn: the turns left are fewer, and the picks go on
-  pub turned_left : (h : Held) → rooms_of l ≡ rooms_of h.lent → (r : Picked) (ns es : List ℕ) (after : List Place) (scratch : List ℕ) (c : Picked) → Going p kind l e k (turns_left c) c h → is_going c ≡ true
-      → Picks (pick (asked_for p kind (search_of c.search) h.list) (search_of c.search) h) r ns es after scratch → (turns_left r < turns_left c) × Going p kind l e k (turns_left r) r (held_in after ns es scratch)
-  turned_left h rooms r ns es after scratch c g o x =
-      let t = turned p kind l e k h rooms r ns es after scratch (turns_left c) c g o x in
-      let z = settled t.rest r (held_in after ns es scratch) t.going in
-      (omega (arith, z.0, t.less), z.1)
+  -- after the start the picks go on, or the run ends
+  pub first_left : (s : Search) (after : List Place) → Begins (start p i64_min h₀.list) (Ok s) after → Goes s (record { list = after; lent = h₀.lent })
+  first_left s after z =
+      (settled all_turns s _ (begins p kind h₀.lent _ _ h₀ refl refl (Ok s) after z)).1
 
-  pub first_left : (h : Held) → e ≡ run_of p kind l h.list → k ≡ run_leaves p kind h → (a : Started) (after : List Place) (c : Picked) → Begins (start p i64_min h.list) a after → c ≡ picked_of a
-      → Going p kind l e k (turns_left c) c (record { list = after; lent = h.lent })
-  first_left h x y a after c z f = (settled all_turns c (record { list = after; lent = h.lent }) (rw f (begins p kind l e k h x y a after z))).1
+  pub first_refused : (n : ℕ) (after : List Place) → Begins (start p i64_min h₀.list) (Err n) after → Over (Err n) (record { list = after; lent = h₀.lent })
+  first_refused n after z = is_refused p kind h₀.lent _ _ all_turns n _ (begins p kind h₀.lent _ _ h₀ refl refl (Err n) after z)
+
+  -- after a turn they go on, with fewer turns left, or the run ends
+  module _ (h : Held) (rooms : rooms_of h₀.lent ≡ rooms_of h.lent) (s : Search) (g : Goes s h) (o : 0 < s.opened) (ns es : List ℕ) (after : List Place) (scratch : List ℕ) where
+    turn : (r : Result Search ℕ) → Picks (pick (asked_for p kind (search_of s) h.list) (search_of s) h) r ns es after scratch → Turned p kind h₀.lent (run_of p kind h₀.lent h₀.list) (run_leaves p kind h₀) (turns_left s) r (held_in after ns es scratch)
+    turn r x =
+        turned_on p kind h₀.lent _ _ h rooms r ns es after scratch (turns_left s) (search_of s) g (ne_eqb s.opened 0 (λ z. absurd (omega (arith, z)))) x
+
+    pub turned_left : (t : Search) → Picks (pick (asked_for p kind (search_of s) h.list) (search_of s) h) (Ok t) ns es after scratch → (turns_left t < turns_left s) × Goes t (held_in after ns es scratch)
+    turned_left t x =
+        let y = turn (Ok t) x in
+        let z = settled y.rest t (held_in after ns es scratch) y.going in
+        (omega (arith, z.0, y.less), z.1)
+
+    pub turned_refused : (n : ℕ) → Picks (pick (asked_for p kind (search_of s) h.list) (search_of s) h) (Err n) ns es after scratch → Over (Err n) (held_in after ns es scratch)
+    turned_refused n x =
+        let y = turn (Err n) x in
+        is_refused p kind h₀.lent _ _ y.rest n (held_in after ns es scratch) y.going
+
+  -- where no record is open the run is over
+  pub is_over : (s : Search) (h : Held) → Goes s h → s.opened ≡ 0 → Over (Ok s) h
+  is_over s h g o = none_left p kind h₀.lent _ _ (turns_left s) s h g o

@@ -8,6 +8,7 @@ use native.Mathlib.Decide.{dec_le}
 use lib.Dec.{eqb}
 use lib.ListN.{length}
 use borrow.Author.Tests.{eqb-true, eq-eqb}
+use Rattle.std.specs.Prelude.{Ok, Err}
 use Rattle.knapsack.specs.Items.{Item}
 use Rattle.diagram.specs.After4.{CutsetKind, last_exact_layer, frontier}
 use Rattle.theorems.proofs.Bool.{and_true, and_right}
@@ -22,7 +23,7 @@ use Rattle.job_text.specs.declared.Head.{Head}
 use Rattle.job_text.specs.declared.Reader.{Reader}
 use Rattle.job_text.specs.Machine.{next_from, next_of, head_of, is_item_word, ends_item, State, begun, moved_to, step_of, run_from, run_of, whole_at}
 use Rattle.job_text.specs.Kept.{room, weights_in, Holds, HasRead}
-use Rattle.job_text.specs.Reads.{kind_from, read_of, nothing_read, read_from, ended_of, Found, Reads}
+use Rattle.job_text.specs.Reads.{kind_from, read_of, read_from, ended_of, Found, Reads}
 use Rattle.job_text.proofs.Lines.{Whole, text_run}
 use Rattle.job_text.proofs.SoFar.{job_of, front, inside, so_far}
 use Rattle.job_text.proofs.Behind.{Calm, Behind}
@@ -197,7 +198,7 @@ fits_whole t r has part_is =
 reads_same : (s : State) (r : Reader) → Holds s r → read_from r ≡ read_of (job_of s.head s.items)
 unfolding read_of
 reads_same s r holds =
-    ap (λ (h : Head). record { ok = true; page = h.page; width = h.width; kind = h.kind; count = r.count; weights = r.weights; profits = r.profits }) holds.head_is ∙ (ap (λ (k : Kind). record { ok = true; page = s.head.page; width = s.head.width; kind = k; count = r.count; weights = r.weights; profits = r.profits }) (sym (kind_there s.head.kind)) ∙ (ap (λ (n : ℕ). record { ok = true; page = s.head.page; width = s.head.width; kind = kind_from (kind_of s.head.kind); count = n; weights = r.weights; profits = r.profits }) holds.count_is ∙ (ap (λ (l : List ℕ). record { ok = true; page = s.head.page; width = s.head.width; kind = kind_from (kind_of s.head.kind); count = length s.items; weights = l; profits = r.profits }) holds.weights_are ∙ ap (λ (l : List ℕ). record { ok = true; page = s.head.page; width = s.head.width; kind = kind_from (kind_of s.head.kind); count = length s.items; weights = weights_in room s.items; profits = l }) holds.profits_are)))
+    ap (λ (h : Head). record { page = h.page; width = h.width; kind = h.kind; count = r.count; weights = r.weights; profits = r.profits }) holds.head_is ∙ (ap (λ (k : Kind). record { page = s.head.page; width = s.head.width; kind = k; count = r.count; weights = r.weights; profits = r.profits }) (sym (kind_there s.head.kind)) ∙ (ap (λ (n : ℕ). record { page = s.head.page; width = s.head.width; kind = kind_from (kind_of s.head.kind); count = n; weights = r.weights; profits = r.profits }) holds.count_is ∙ (ap (λ (l : List ℕ). record { page = s.head.page; width = s.head.width; kind = kind_from (kind_of s.head.kind); count = length s.items; weights = l; profits = r.profits }) holds.weights_are ∙ ap (λ (l : List ℕ). record { page = s.head.page; width = s.head.width; kind = kind_from (kind_of s.head.kind); count = length s.items; weights = weights_in room s.items; profits = l }) holds.profits_are)))
 
 found_job : (t : List ℕ) (r : Reader) → HasRead t r → whole_at r.place ≡ true → Found t (read_from r)
 found_job t r has whole =
@@ -212,21 +213,21 @@ found_job t r has whole =
     }
 
 -- What is read where the machine stands behind a whole text, and where it does not.
-pub ended_whole : (r : Reader) → whole_at r.place ≡ true → read_from r ≡ ended_of r
+pub ended_whole : (r : Reader) → whole_at r.place ≡ true → Ok (read_from r) ≡ ended_of r
 unfolding ended_of
 ended_whole r whole = rw whole
 
-pub ended_part_way : (r : Reader) → whole_at r.place ≡ false → nothing_read ≡ ended_of r
+pub ended_part_way : (r : Reader) → whole_at r.place ≡ false → Err 15 ≡ ended_of r
 unfolding ended_of
 ended_part_way r part-way = rw part-way
 
-pub reads_whole : (t : List ℕ) (r : Reader) → HasRead t r → whole_at r.place ≡ true → Reads t (read_from r)
+pub reads_whole : (t : List ℕ) (r : Reader) → HasRead t r → whole_at r.place ≡ true → Reads t (Ok (read_from r))
 reads_whole t r has whole =
     let it : Found t (read_from r) = found_job t r has whole in
     record {
-      job_read = λ j is-text. it.as_read ∙ ap read_of (one_job t it.job j it.has_text is-text);
-      found = λ e. it;
-      outside = λ e. absurd (let z : ◌≡◌ {A = ℕ} 0 1 = cc in omega arith);
+      job_read = λ j is-text. ap Ok (it.as_read ∙ ap read_of (one_job t it.job j it.has_text is-text));
+      found = λ c e. let same : read_from r ≡ c = cc in subst (Found t) same it;
+      outside = λ n e. absurd (let z : ◌≡◌ {A = ℕ} 0 1 = cc in omega arith);
     }
 
 no_text : (t : List ℕ) (r : Reader) → HasRead t r → whole_at r.place ≡ false → (j : Job) → IsText t j → ⊥
@@ -237,13 +238,12 @@ no_text t r has part-way j is-text =
     let z : ◌≡◌ {A = ℕ} 0 1 = cc in
     omega arith
 
-pub reads_nothing : (t : List ℕ) (r : Reader) → HasRead t r → whole_at r.place ≡ false → Reads t nothing_read
-unfolding nothing_read
+pub reads_nothing : (t : List ℕ) (r : Reader) → HasRead t r → whole_at r.place ≡ false → Reads t (Err 15)
 reads_nothing t r has part-way =
     record {
       job_read = λ j is-text. absurd (no_text t r has part-way j is-text);
-      found = λ e. absurd (let z : ◌≡◌ {A = ℕ} 0 1 = cc in omega arith);
-      outside = λ e. (no_text t r has part-way, refl);
+      found = λ c e. absurd (let z : ◌≡◌ {A = ℕ} 0 1 = cc in omega arith);
+      outside = λ n e. (no_text t r has part-way, cc);
     }
 
 -- Whether a text is a job's is told by where the machine stands behind it.

@@ -1,21 +1,17 @@
 -- The branches of the reader's functions, each as a fact on the definition that it is to meet.
-use mathlib.Core.Path.{◌≡◌, refl, sym, ap, ◌∙◌}
-use mathlib.Core.Bool.{Bool, true, false}
+use mathlib.Core.Path.{◌≡◌, ap}
+use mathlib.Core.Bool.{true, false}
 use mathlib.Core.List.{List}
 use Prim.Native.Nat.{ℕ, ◌+◌, ◌-◌, ◌*◌, ◌<◌, ◌≤◌}
 use native.Mathlib.Omega.{arith}
-use lib.Dec.{eqb}
-use lib.ListN.{length, get_or, set}
+use lib.ListN.{length, get_or}
 use borrow.Author.Tests.{lt-ltb, le-ltb, le-leb, lt-leb, eq-eqb, ne_eqb}
 use Rattle.numbers.specs.Decimal.{is_digit}
-use Rattle.jobs.specs.Text.{nine_digits, most_bytes}
+use Rattle.jobs.specs.Text.{nine_digits}
 use Rattle.job_text.specs.declared.Part.{Part}
-use Rattle.job_text.specs.declared.Part.TheVariants.{CapWord, Page, WidthWord, Width, CutWord, Choice, Lel, Frontier, ItemWord, Weight, Profit, Fault}
+use Rattle.job_text.specs.declared.Part.TheVariants.{Lel, Frontier}
 use Rattle.job_text.specs.declared.Place.{Place}
-use Rattle.job_text.specs.declared.Head.{Head}
-use Rattle.job_text.specs.Machine.{place, faulted, spelled_of, grown, pushed_of, closed_of, counted_of, chosen_of, next_from, next_of, head_of, is_item_word, ends_item, whole_at}
-use Rattle.job_text.specs.declared.Reader.{Reader}
-use Rattle.job_text.specs.Kept.{room, stored_at, moved_on, moved_with, moved_by, overrun_of, taken_of, stepped_of}
+use Rattle.job_text.specs.Machine.{place, faulted, spelled_of, grown, pushed_of, closed_of, counted_of, chosen_of}
 
 -- a word's letter
 pub spelled_past : (p : Place) (b : ℕ) (w : List ℕ) (then : Part) → length w ≤ p.at → faulted ≡ spelled_of p b w then
@@ -106,109 +102,3 @@ chosen_frontier p b other same = rw (ne_eqb b 108 other, eq-eqb b 102 same)
 pub chosen_none : (p : Place) (b : ℕ) → (b ≡ 108 → ⊥) → (b ≡ 102 → ⊥) → faulted ≡ chosen_of p b
 unfolding chosen_of
 chosen_none p b other wrong = rw (ne_eqb b 108 other, ne_eqb b 102 wrong)
-
--- The table's row of a part.
-pub row : (p : Place) (b : ℕ) (part : Part) {r : Place} → p.part ≡ part → r ≡ next_from part p b → r ≡ next_of p b
-unfolding next_of
-row p b part e is = is ∙ ap (λ (q : Part). next_from q p b) (sym e)
-
--- a part's field of the head
-pub heading : (q part : Part) (n : ℕ) (h : Head) {r : Head} → q ≡ part → r ≡ head_of part n h → r ≡ head_of q n h
-heading q part n h e is = is ∙ ap (λ (x : Part). head_of x n h) (sym e)
-
--- the parts that a function's last arm is for
-pub unheaded : (part : Part) (n : ℕ) (h : Head) → (part ≡ Page → ⊥) → (part ≡ Width → ⊥) → (part ≡ Lel → ⊥) → (part ≡ Frontier → ⊥) → (part ≡ Weight → ⊥) → h ≡ head_of part n h
-unfolding head_of
-unheaded CapWord n h _ _ _ _ _ = refl
-unheaded Page n h k _ _ _ _ = absurd (k refl)
-unheaded WidthWord n h _ _ _ _ _ = refl
-unheaded Width n h _ k _ _ _ = absurd (k refl)
-unheaded CutWord n h _ _ _ _ _ = refl
-unheaded Choice n h _ _ _ _ _ = refl
-unheaded Lel n h _ _ k _ _ = absurd (k refl)
-unheaded Frontier n h _ _ _ k _ = absurd (k refl)
-unheaded ItemWord n h _ _ _ _ _ = refl
-unheaded Weight n h _ _ _ _ k = absurd (k refl)
-unheaded Profit n h _ _ _ _ _ = refl
-unheaded Fault n h _ _ _ _ _ = refl
-
-pub no_item_word : (part : Part) → (part ≡ ItemWord → ⊥) → false ≡ is_item_word part
-unfolding is_item_word
-no_item_word CapWord k = refl
-no_item_word Page k = refl
-no_item_word WidthWord k = refl
-no_item_word Width k = refl
-no_item_word CutWord k = refl
-no_item_word Choice k = refl
-no_item_word Lel k = refl
-no_item_word Frontier k = refl
-no_item_word ItemWord k = absurd (k refl)
-no_item_word Weight k = refl
-no_item_word Profit k = refl
-no_item_word Fault k = refl
-
-pub no_profit : (part : Part) (to : Part) → (part ≡ Profit → ⊥) → false ≡ ends_item part to
-unfolding ends_item
-no_profit CapWord to k = refl
-no_profit Page to k = refl
-no_profit WidthWord to k = refl
-no_profit Width to k = refl
-no_profit CutWord to k = refl
-no_profit Choice to k = refl
-no_profit Lel to k = refl
-no_profit Frontier to k = refl
-no_profit ItemWord to k = refl
-no_profit Weight to k = refl
-no_profit Profit to k = absurd (k refl)
-no_profit Fault to k = refl
-
--- whether a text is whole
-pub whole_item : (p : Place) (t : Bool) → t ≡ is_item_word p.part → t ≡ true → eqb p.at 0 ≡ whole_at p
-unfolding whole_at
-whole_item p t e yes-it = rw (sym e ∙ yes-it)
-
-pub whole_other : (p : Place) (t : Bool) → t ≡ is_item_word p.part → t ≡ false → false ≡ whole_at p
-unfolding whole_at
-whole_other p t e not-it = rw (sym e ∙ not-it)
-
--- a number's place in the list
-pub stored_in : (l : List ℕ) (at n : ℕ) → at < room → set l at n ≡ stored_at l at n
-unfolding stored_at
-stored_in l at n h = rw (lt-ltb at room h)
-
-pub stored_past : (l : List ℕ) (at n : ℕ) → room ≤ at → l ≡ stored_at l at n
-unfolding stored_at
-stored_past l at n h = rw (le-ltb at room h)
-
--- The byte that ends an item, and the one that does not.
-taken_by : (r : Reader) (b : ℕ) (p : Place) (h : Head) → p ≡ next_of r.place b → h ≡ head_of r.place.part p.number r.head → moved_by r p h ≡ taken_of r b
-unfolding taken_of
-taken_by r b p h place_is head_is =
-    ap (moved_by r p) head_is ∙ ap (λ (q : Place). moved_by r q (head_of r.place.part q.number r.head)) place_is
-
-ending : (r : Reader) (p : Place) (h : Head) → ends_item r.place.part p.part ≡ true → moved_with r p h ≡ moved_by r p h
-unfolding moved_by
-ending r p h e = rw e
-
-going_on : (r : Reader) (p : Place) (h : Head) → ends_item r.place.part p.part ≡ false → moved_on r p h ≡ moved_by r p h
-unfolding moved_by
-going_on r p h e = rw e
-
-pub taken_with : (r : Reader) (b : ℕ) (p : Place) (h : Head) (t : Bool) → p ≡ next_of r.place b → h ≡ head_of r.place.part p.number r.head → t ≡ ends_item r.place.part p.part → t ≡ true → moved_with r p h ≡ taken_of r b
-taken_with r b p h t place_is head_is test ends = ending r p h (sym test ∙ ends) ∙ taken_by r b p h place_is head_is
-
-pub taken_on : (r : Reader) (b : ℕ) (p : Place) (h : Head) (t : Bool) → p ≡ next_of r.place b → h ≡ head_of r.place.part p.number r.head → t ≡ ends_item r.place.part p.part → t ≡ false → moved_on r p h ≡ taken_of r b
-taken_on r b p h t place_is head_is test goes_on = going_on r p h (sym test ∙ goes_on) ∙ taken_by r b p h place_is head_is
-
--- The reader behind one byte more, by its counts.
-pub stepped_on : (r : Reader) (b : ℕ) → r.bytes < most_bytes → r.count < most_bytes → taken_of r b ≡ stepped_of r b
-unfolding stepped_of
-stepped_on r b few_bytes few_items = rw (lt-ltb r.bytes most_bytes few_bytes, lt-ltb r.count most_bytes few_items)
-
-pub stepped_full : (r : Reader) (b : ℕ) → most_bytes ≤ r.bytes → overrun_of r ≡ stepped_of r b
-unfolding stepped_of
-stepped_full r b full = rw (le-ltb r.bytes most_bytes full)
-
-pub stepped_crowded : (r : Reader) (b : ℕ) → r.bytes < most_bytes → most_bytes ≤ r.count → overrun_of r ≡ stepped_of r b
-unfolding stepped_of
-stepped_crowded r b few full = rw (lt-ltb r.bytes most_bytes few, le-ltb r.count most_bytes full)

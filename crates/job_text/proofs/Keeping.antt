@@ -5,9 +5,7 @@ use mathlib.Core.List.{List, [], ◌∷◌, ◌++◌}
 use Prim.Native.Nat.{ℕ, zero, suc, ◌+◌, ◌<◌, ◌≤◌}
 use native.Mathlib.Omega.{arith}
 use native.Mathlib.Decide.{dec_le}
-use native.Mathlib.Numerals.{add-one}
-use lib.ListN.{length, set, get_or, take, length-append}
-use lib.Seq.{take-suc, take_all}
+use lib.ListN.{length, set, length-append}
 use borrow.Author.Tests.{lt-ltb, le-ltb}
 use Rattle.knapsack.specs.Items.{Item}
 use Rattle.jobs.specs.Text.{most_bytes}
@@ -171,10 +169,3 @@ reads_over t r b full has =
       );
       few = has.few;
     }
-
--- A text read from its front on: a turn, and its end.
-pub read_turn : (t : List ℕ) (i : ℕ) (r : Reader) → i < length t → HasRead (take i t ++ (get_or t i 0 ∷ [])) r → HasRead (take (i + 1) t) r
-read_turn t i r h has = rw (add-one i, take-suc t i 0 h) has
-
-pub read_done : (t : List ℕ) (i : ℕ) (r : Reader) → length t ≤ i → HasRead (take i t) r → HasRead t r
-read_done t i r h has = subst (λ (x : List ℕ). HasRead x r) (take_all i t h) has

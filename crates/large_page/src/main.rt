@@ -3,11 +3,8 @@
 
 fn main(rt: HostRuntime) {
     let mut text = io::large_buffer();
-    let taken = job_io::read_job(&rt, &mut text);
-    if !taken.ok {
-        return;
+    if let Some(count) = job_io::read_job(&rt, &mut text) {
+        let answer = job_tables::large_answer(&text[..count]);
+        job_io::write(&rt, answer);
     }
-    let count = taken.count;
-    let answer = job_tables::large_answer(&text[..count]);
-    job_io::write(&rt, answer);
 }

@@ -1,71 +1,85 @@
--- A value of the code is known by the layers that it stands for: its places past them hold 0.
-use mathlib.Core.Path.{◌≡◌, refl, ap, sym, ◌∙◌}
-use mathlib.Core.List.{List, [], ◌∷◌, ◌++◌, map, reverse, reverse_aux, append_assoc, append-nil}
-use Prim.Native.Nat.{ℕ, zero, suc, ◌+◌, ◌-◌, ◌≤◌}
-use native.Mathlib.Omega.{arith}
-use lib.ListN.{length, get_or, take, replicate}
-use lib.Seq.{take-suc, length-take-le}
+-- A value of the code is known by the layers that it stands for: its places past them hold none.
+use Rattle.std.proofs.Common.{ℕ, zero, suc, ◌≡◌, ◌-◌, ◌≤◌, List, [], ◌∷◌, ◌++◌, length, get_or, take, map, reverse, refl, sym, ap, ◌∙◌, subst, arith, append_assoc, append-nil}
+use Rattle.std.proofs.Math.ListN.{replicate}
+use Rattle.std.proofs.Math.Seq.{take-suc}
+use Rattle.std.proofs.lemmas.List.{length-take-le, take_all}
+use Rattle.std.specs.Coded.{le_prop}
+use Rattle.std.proofs.Math.Nat.{ℕ_set}
+use mathlib.Core.List.{reverse_aux}
 use Rattle.diagram.specs.Tables.{Range}
+use Rattle.layers.specs.declared.Layer.{Layer}
 use Rattle.layers.specs.declared.Layers.{Layers}
-use Rattle.layers.specs.Stored.{range, first_ones, stored, Sized, places, layers_from}
+use Rattle.layers.specs.Layer.{no_layer}
+use Rattle.layers.specs.Places.{held, places}
+use Rattle.layers.specs.Stored.{range_of, layer_of, first_ones, stored, layers_from}
 
--- ---- one column of the layers, oldest first, is the array's first places
-
-lows : (from to : List ℕ) (n : ℕ) (ls : List Range) → n ≤ length from → map (λ l. l.lo) (reverse_aux (first_ones from to n) ls) ≡ take n from ++ map (λ l. l.lo) ls
+-- the stored layers, oldest first, are the array's first places
+firsts : (rows : List Layer) (n : ℕ) (rs : List Range) → n ≤ length rows → map layer_of (reverse_aux (first_ones rows n) rs) ≡ take n rows ++ map layer_of rs
 unfolding first_ones
-lows from to zero ls h = refl
-lows from to (suc n) ls h =
-    lows from to n (range (get_or from n 0) (get_or to n 0) ∷ ls) (omega arith)
-    ∙ sym (append_assoc (take n from) (get_or from n 0 ∷ []) (map (λ l. l.lo) ls))
-    ∙ ap (λ (xs : List ℕ). xs ++ map (λ l. l.lo) ls) (sym (take-suc from n 0 (omega arith)))
+firsts rows zero rs h = refl
+firsts rows (suc n) rs h =
+    firsts rows n (range_of (get_or rows n no_layer) ∷ rs) (omega arith)
+    ∙ sym (append_assoc (take n rows) (get_or rows n no_layer ∷ []) (map layer_of rs))
+    ∙ ap (λ (xs : List Layer). xs ++ map layer_of rs) (sym (take-suc rows n no_layer (omega arith)))
 
-highs : (from to : List ℕ) (n : ℕ) (ls : List Range) → n ≤ length to → map (λ l. l.hi) (reverse_aux (first_ones from to n) ls) ≡ take n to ++ map (λ l. l.hi) ls
-unfolding first_ones
-highs from to zero ls h = refl
-highs from to (suc n) ls h =
-    highs from to n (range (get_or from n 0) (get_or to n 0) ∷ ls) (omega arith)
-    ∙ sym (append_assoc (take n to) (get_or to n 0 ∷ []) (map (λ l. l.hi) ls))
-    ∙ ap (λ (xs : List ℕ). xs ++ map (λ l. l.hi) ls) (sym (take-suc to n 0 (omega arith)))
+-- ---- an array that holds no layer past its first places
 
--- ---- an array that holds 0 past its first places
-
-zeros_from : (xs : List ℕ) → ((i : ℕ) → get_or xs i 0 ≡ 0) → xs ≡ replicate (length xs) 0
-zeros_from [] h = refl
-zeros_from (x ∷ xs) h =
-    let a : x ≡ 0 = h 0 in
-    let b : xs ≡ replicate (length xs) 0 = zeros_from xs (λ i. h (suc i)) in
+none_from : (rows : List Layer) → ((i : ℕ) → get_or rows i no_layer ≡ no_layer) → rows ≡ replicate (length rows) no_layer
+none_from [] h = refl
+none_from (x ∷ xs) h =
+    let a : x ≡ no_layer = h 0 in
+    let b : xs ≡ replicate (length xs) no_layer = none_from xs (λ i. h (suc i)) in
     cc
 
-clear_behind : (xs : List ℕ) (n : ℕ) → n ≤ length xs → ((i : ℕ) → n ≤ i → get_or xs i 0 ≡ 0) → xs ≡ take n xs ++ replicate (length xs - n) 0
-clear_behind xs zero l h = let e : length xs - 0 ≡ length xs = omega arith in rw e (zeros_from xs (λ i. h i (omega arith)))
+clear_behind : (rows : List Layer) (n : ℕ) → n ≤ length rows → ((i : ℕ) → n ≤ i → get_or rows i no_layer ≡ no_layer) → rows ≡ take n rows ++ replicate (length rows - n) no_layer
+clear_behind rows zero l h = let e : length rows - 0 ≡ length rows = omega arith in rw e (none_from rows (λ i. h i (omega arith)))
 clear_behind [] (suc n) l h = absurd (omega arith)
-clear_behind (x ∷ xs) (suc n) l h = ap (λ (ys : List ℕ). x ∷ ys) (clear_behind xs n (omega arith) (λ i k. h (suc i) (omega arith)) ∙ ap (λ (m : ℕ). take n xs ++ replicate m 0) e)
+clear_behind (x ∷ xs) (suc n) l h = ap (λ (ys : List Layer). x ∷ ys) (clear_behind xs n (omega arith) (λ i k. h (suc i) (omega arith)) ∙ ap (λ (m : ℕ). take n xs ++ replicate m no_layer) e)
   where
     e : length xs - n ≡ length (x ∷ xs) - suc n
     e = omega arith
 
-column : (xs col : List ℕ) (n : ℕ) → length xs ≡ 65 → n ≤ 65 → ((i : ℕ) → n ≤ i → get_or xs i 0 ≡ 0) → col ≡ take n xs ++ [] → xs ≡ places col
-column xs col n s l h e =
-    let q : length (take n xs) ≡ n = length-take-le n xs (omega arith) in
-    let c : col ≡ take n xs = e ∙ append-nil (take n xs) in
-    rw (c, q) (clear_behind xs n (omega arith) h ∙ ap (λ (m : ℕ). take n xs ++ replicate (m - n) 0) s)
-
 -- ---- the whole value
 
-count_of : (from to : List ℕ) (n : ℕ) (ls : List Range) → length (reverse_aux (first_ones from to n) ls) ≡ n + length ls
-unfolding first_ones
-count_of from to zero ls = omega arith
-count_of from to (suc n) ls = omega (arith, count_of from to n (range (get_or from n 0) (get_or to n 0) ∷ ls))
+rows_are : (l : Layers) (ls : List Layer) → ls ≡ take l.count l.rows → l.rows ≡ places ls
+rows_are l ls e =
+    let n : length (take l.count l.rows) ≡ l.count = length-take-le l.count l.rows (omega (arith, l.sized, l.few)) in
+    let q : take 65 (take l.count l.rows) ≡ take l.count l.rows = take_all 65 (take l.count l.rows) (omega (arith, l.few)) in
+    rw (e, q, n) (clear_behind l.rows l.count (omega (arith, l.sized, l.few)) l.clear ∙ ap (λ (m : ℕ). take l.count l.rows ++ replicate (m - l.count) no_layer) l.sized)
 
-by_fields : (l m : Layers) → l.from ≡ m.from → l.to ≡ m.to → l.count ≡ m.count → l ≡ m
-by_fields l m a b c =
-    let e : ◌≡◌ {A = Layers} (record { from = l.from; to = l.to; count = l.count }) (record { from = m.from; to = m.to; count = m.count }) = cc in
-    e
+count_is : (l : Layers) (ls : List Layer) → ls ≡ take l.count l.rows → l.count ≡ length (held ls)
+count_is l ls e =
+    let n : length (take l.count l.rows) ≡ l.count = length-take-le l.count l.rows (omega (arith, l.sized, l.few)) in
+    let q : take 65 (take l.count l.rows) ≡ take l.count l.rows = take_all 65 (take l.count l.rows) (omega (arith, l.few)) in
+    rw (e, q) (sym n)
 
-pub as_stored : (l : Layers) → Sized l → l.count ≤ 65 → l ≡ layers_from (reverse (stored l))
+-- values with the same rows and the same count are the same: what they promise has one proof
+abbrev Clear : List Layer → ℕ → Type 0
+Clear rows n = (i : ℕ) → n ≤ i → get_or rows i no_layer ≡ no_layer
+
+sized-prop : (rows : List Layer) → IsProp (length rows ≡ 65)
+sized-prop rows = hlevel ℕ_set
+
+few-prop : (n : ℕ) → IsProp (n ≤ 65)
+few-prop n = hlevel le_prop
+
+clear-prop : (rows : List Layer) (n : ℕ) → IsProp (Clear rows n)
+clear-prop rows n = hlevel ℕ_set
+
+by_fields : (l m : Layers) → l.rows ≡ m.rows → l.count ≡ m.count → l ≡ m
+by_fields l m a b = at-rows m.rows a m.count b m.sized m.few m.clear
+  where
+    at-both : (s : length l.rows ≡ 65) (f : l.count ≤ 65) (c : Clear l.rows l.count) → l ≡ record { rows = l.rows; count = l.count; sized = s; few = f; clear = c }
+    at-both s f c = λ i. record { rows = l.rows; count = l.count; sized = sized-prop l.rows l.sized s i; few = few-prop l.count l.few f i; clear = clear-prop l.rows l.count l.clear c i }
+
+    at-count : (n : ℕ) → l.count ≡ n → (s : length l.rows ≡ 65) (f : n ≤ 65) (c : Clear l.rows n) → l ≡ record { rows = l.rows; count = n; sized = s; few = f; clear = c }
+    at-count n e = subst (λ (n : ℕ). (s : length l.rows ≡ 65) (f : n ≤ 65) (c : Clear l.rows n) → ◌≡◌ {A = Layers} l (record { rows = l.rows; count = n; sized = s; few = f; clear = c })) e at-both
+
+    at-rows : (rows : List Layer) → l.rows ≡ rows → (n : ℕ) → l.count ≡ n → (s : length rows ≡ 65) (f : n ≤ 65) (c : Clear rows n) → l ≡ record { rows = rows; count = n; sized = s; few = f; clear = c }
+    at-rows rows e n q = subst (λ (rows : List Layer). (s : length rows ≡ 65) (f : n ≤ 65) (c : Clear rows n) → ◌≡◌ {A = Layers} l (record { rows = rows; count = n; sized = s; few = f; clear = c })) e (at-count n q)
+
+pub as_stored : (l : Layers) → l ≡ layers_from (reverse (stored l))
 unfolding stored
-as_stored l z h =
-    let a : l.from ≡ places (map (λ r. r.lo) (reverse (stored l))) = column l.from _ l.count z.from_sized h z.from_clear (lows l.from l.to l.count [] (omega (arith, z.from_sized))) in
-    let b : l.to ≡ places (map (λ r. r.hi) (reverse (stored l))) = column l.to _ l.count z.to_sized h z.to_clear (highs l.from l.to l.count [] (omega (arith, z.to_sized))) in
-    let c : l.count ≡ length (reverse (stored l)) = omega (arith, count_of l.from l.to l.count []) in
-    by_fields l (layers_from (reverse (stored l))) a b c
+as_stored l =
+    let e : map layer_of (reverse (stored l)) ≡ take l.count l.rows = firsts l.rows l.count [] (omega (arith, l.sized, l.few)) ∙ append-nil (take l.count l.rows) in
+    by_fields l (layers_from (reverse (stored l))) (rows_are l _ e) (count_is l _ e)

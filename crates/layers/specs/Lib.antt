@@ -1,2 +1,4 @@
 -- What stored layers stand for.
+pub mod Layer
+pub mod Places
 pub mod Stored

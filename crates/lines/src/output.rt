@@ -1,63 +1,61 @@
 // Numbers of an answer, to standard output: decimal, parted by spaces, each answer a line. What isn't written out yet stands in a buffer.
-ghost use Rattle.std.specs.Prelude.{◌<◌};
+ghost use Rattle.std.specs.Prelude.{◌≡◌, ◌<◌, ◌≤◌};
 
-// Writes the buffer's first `at` bytes out. What can't be written is lost: the next numbers take its place in the buffer.
-pub fn flush<R: Print>(rt: &R, out: &[u8], at: usize) {
-    if at <= out.len() {
-        let _ = rt.write_all(&out[..at]);
+// The program's standard output. The buffer's first `at` bytes aren't written out yet.
+#[derive(Drop)]
+pub struct Output<'a, R> {
+    rt: &'a R,
+    bytes: [u8; 65536],
+    at: usize,
+    ghost at_in_bytes: { at ≤ 65536 },
+}
+
+impl<'a, R: Print> Output<'a, R> {
+    // Nothing is written yet.
+    pub fn new(rt: &'a R) -> Output<'a, R> {
+        Output {
+            rt,
+            bytes: [0; 65536],
+            at: 0,
+        }
     }
-}
 
-// The place for the next number. Where there may be no room behind the first `at` bytes they are written out, and it is the first place.
-fn place<R: Print>(rt: &R, out: &[u8; 65536], at: usize) -> usize
-    ensures { result < 65500 }
-{
-    if at < 65500 {
-        return at;
+    // Writes the buffer out. What can't be written is lost.
+    pub fn flush(&mut self)
+        ensures { self.new.at ≡ 0 }
+    {
+        let _ = self.rt.write_all(&self.bytes[..self.at]);
+        self.at = 0;
     }
-    flush(rt, out, at);
-    0
-}
 
-// A number and a space, behind the buffer's first `at` bytes; the place behind them.
-pub fn put<R: Print>(rt: &R, out: &mut [u8; 65536], at: usize, n: u64) -> usize {
-    let from = place(rt, out, at);
-    let behind = numbers::write(out, from, n);
-    out[behind] = b' ';
-    behind + 1
-}
-
-// Each number of a list.
-pub fn put_list<R: Print>(rt: &R, out: &mut [u8; 65536], at: usize, list: &[u64]) -> usize {
-    let mut end = at;
-    let mut i = 0;
-    while i < list.len() {
-        end = put(rt, out, end, list[i]);
-        i += 1;
+    // Where there may be no room for a number and a space the buffer is written out.
+    fn make_room(&mut self)
+        ensures { self.new.at < 65500 }
+    {
+        if self.at >= 65500 {
+            self.flush();
+        }
     }
-    end
-}
 
-// Each of a path's places.
-pub fn put_path<R: Print>(rt: &R, out: &mut [u8; 65536], at: usize, path: [u8; 64]) -> usize {
-    let mut end = at;
-    let mut i = 0;
-    while i < 64 {
-        end = put(rt, out, end, wide(path[i]));
-        i += 1;
+    // A number and a space.
+    pub fn put(&mut self, n: u64) {
+        self.make_room();
+        let behind = numbers::write(&mut self.bytes, self.at, n);
+        self.bytes[behind] = b' ';
+        self.at = behind + 1;
     }
-    end
-}
 
-fn wide(byte: u8) -> u64 {
-    byte as u64
-}
+    // Each number of a list.
+    pub fn put_all<N: Copy + Into<u64>>(&mut self, list: &[N]) {
+        for n in list {
+            self.put((*n).into());
+        }
+    }
 
-// The answer's end: the space behind its last number becomes a line end.
-pub fn end_line(out: &mut [u8; 65536], at: usize) {
-    if 0 < at {
-        if at <= 65536 {
-            out[at - 1] = b'\n';
+    // The answer's end: the space behind its last number becomes a line end.
+    pub fn end_line(&mut self) {
+        if 0 < self.at {
+            self.bytes[self.at - 1] = b'\n';
         }
     }
 }

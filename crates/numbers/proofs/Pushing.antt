@@ -9,6 +9,10 @@ use native.Mathlib.Numerals.{add-one}
 use lib.ListN.{length, drop, get_or, drop_of_length-le}
 use lib.Seq.{drop-cons}
 use borrow.Author.Tests.{lt-ltb, le-ltb, le-leb, lt-leb}
+use Rattle.std.specs.Prelude as Code
+use Rattle.std.specs.Prelude.{Some, None}
+use Rattle.std.specs.Option.{SomeIff}
+use Rattle.numbers.specs.Read.{read_of}
 use Rattle.numbers.specs.Decimal.{is_digit, pushed, and_then, push_all, number_of}
 
 pub push_digit : (v b : ℕ) → 48 ≤ b → b ≤ 57 → v * 10 + (b - 48) < 18446744073709551616 → pushed v b ≡ some (v * 10 + (b - 48))
@@ -30,6 +34,13 @@ and_false false n = refl
 pub push_large : (v b : ℕ) → 18446744073709551616 ≤ v * 10 + (b - 48) → pushed v b ≡ none
 unfolding pushed is_digit
 push_large v b large = rw (le-ltb (v * 10 + (b - 48)) 18446744073709551616 large) (and_false (is_digit b) (v * 10 + (b - 48)))
+
+-- the digit behind the digits of v, as the code adds it to ten times v
+pub push_more : (v b d m : ℕ) (r : Code.Option ℕ) → 48 ≤ b → b ≤ 57 → d ≡ b - 48 → m ≡ v * 10 → SomeIff r (m + d < 18446744073709551616) (m + d) → read_of r ≡ pushed v b
+push_more v b d m (Some x) low high e f h =
+    let z : x ≡ v * 10 + (b - 48) = omega (arith, h.1) in
+    ap some z ∙ sym (push_digit v b low high (omega (arith, h.0)))
+push_more v b d m None low high e f h = sym (push_large v b (omega arith))
 
 pub push_two : (a b : List ℕ) (read : Option ℕ) → push_all (a ++ b) read ≡ push_all b (push_all a read)
 unfolding push_all

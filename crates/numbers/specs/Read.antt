@@ -1,9 +1,7 @@
 -- What a reading of the code stands for: the number, or none.
-use Rattle.std.proofs.Math.Option.{Option, none, some}
-use Rattle.std.specs.Prelude.{ℕ}
-use Rattle.numbers.specs.declared.Number.{Number}
-use Rattle.numbers.specs.declared.Number.TheVariants.{Is, Nothing}
+use Rattle.std.proofs.Math.Option as Def
+use Rattle.std.specs.Prelude.{ℕ, Option, Some, None}
 
-abbrev pub read_of : Number → Option ℕ
-read_of (Is n) = some n
-read_of Nothing = none
+abbrev pub read_of : Option ℕ → Def.Option ℕ
+read_of (Some n) = Def.some n
+read_of None = Def.none

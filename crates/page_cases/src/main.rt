@@ -15,13 +15,10 @@ fn write_name<R: Runtime>(rt: &R, i: usize) {
 // Answers the job of the file that argument i names.
 fn answer_named<R: Runtime>(rt: &R, i: usize) {
     let mut text = io::large_buffer();
-    let taken = job_io::read_named(rt, i, &mut text);
-    if !taken.ok {
-        return;
+    if let Some(count) = job_io::read_named(rt, i, &mut text) {
+        let answer = job_tables::answer(&text[..count]);
+        job_io::write(rt, answer);
     }
-    let count = taken.count;
-    let answer = job_tables::answer(&text[..count]);
-    job_io::write(rt, answer);
 }
 
 fn main(rt: HostRuntime) {

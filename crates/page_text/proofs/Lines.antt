@@ -55,10 +55,7 @@ module _ (path b : List ℕ) (at d : ℕ) {next : ℕ} {m : List ℕ} (p : Put (
   pub item_put : {q : ℕ} {a : List ℕ} → Put (item_line d path) next m q a → Put (item_lines (d + 1) 0 path) at b q a
   item_put line-there = rw (add-one, items_more d 0 d path (omega arith)) (put_two p line-there)
 
--- where that loop starts, and where it ends
+-- where that loop starts
 pub no_items : (path b : List ℕ) (at : ℕ) → at ≤ length b → Put (item_lines 0 0 path) at b at b
 unfolding item_lines
 no_items path b at h = put_nothing b at h
-
-pub items_all : (path : List ℕ) (d : ℕ) {b a : List ℕ} {at r : ℕ} → d ≤ length path → length path ≤ d → Put (item_lines d 0 path) at b r a → Put (item_lines (length path) 0 path) at b r a
-items_all path d most least p = let all : d ≡ length path = omega arith in rw all at p

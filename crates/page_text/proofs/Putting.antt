@@ -5,21 +5,11 @@ use Prim.Native.Nat.{ℕ, zero, suc, ◌+◌, ◌-◌, ◌≤◌, ◌<◌}
 use native.Mathlib.Omega.{arith}
 use native.Mathlib.Numerals.{add-one}
 use lib.ListN.{length, replicate, set, take, drop, length-append, length-take, length-drop, take-append-drop}
-use lib.Seq.{paste, take-length, take_at, drop_at, drop-drop, set_split}
+use lib.Seq.{take_at, drop_at, drop-drop, set_split}
 use Rattle.numbers.specs.Decimal.{decimal}
 use Rattle.numbers.specs.Written.{Written}
 use Rattle.page_text.specs.Put.{Put}
 use Rattle.page_text.specs.Says.{Says}
-
--- where a copy byte after byte ends
-pub copy_done : (d : List ℕ) (at : ℕ) (s : List ℕ) (j : ℕ) (out : List ℕ) → at + length s ≤ length d → j ≤ length s → length s ≤ j → out ≡ paste d at s j → Put s at d (at + j) out
-copy_done d at s j out fits most least e =
-    let all : j ≡ length s = omega arith in
-    record {
-      stands = e ∙ (ap (λ n. take at d ++ take n s ++ drop (at + j) d) all ∙ (ap (λ t. take at d ++ t ++ drop (at + j) d) (take-length s) ∙ append_assoc (take at d) s (drop (at + j) d)));
-      behind = ap (λ n. at + n) all;
-      fits = omega arith;
-    }
 
 module _ {s b m : List ℕ} {at r : ℕ} (p : Put s at b r m) where
   front_length : length (take at b ++ s) ≡ r

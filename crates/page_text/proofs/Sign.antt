@@ -1,33 +1,26 @@
--- An i64 as the natural number that it is, by its sign.
-use Prim.Native.Nat.{ℕ, ◌<◌}
+-- An i64 as the natural number that it is, 0 where it is below 0.
+use Prim.Native.Nat.{ℕ, zero, suc}
 use mathlib.Core.Path.{◌≡◌, refl, ap, ◌∙◌}
-use mathlib.Core.Bool.{true, false}
+use mathlib.Core.Bool.{Bool, cond}
 use native.Mathlib.Omega.{arith}
-use lib.IntN.{ℤ, pos, negsuc}
-use lib.Signed.{le_z}
-use borrow.Author.Tests.{leb-false}
+use lib.IntN.{ℤ, pos, negsuc, nat_abs}
+use borrow.Author.Tests.{lt-ltb}
 use mir.Syntax.{w64}
 use mir.Val.{SFits, to_z, of_z}
-use mir.ValLaws.{to_z_pos, to_z-neg, to_z-of_z}
+use mir.ValLaws.{to_z-of_z}
+use Rattle.std.specs.Int.{int_max}
 use Rattle.jobs.specs.Page.{natural}
 
--- one that tests as not below 0 reads as its natural number
-pub record NotBelow (z : ℤ) : Type 0 where
-  pub size : ℕ
-  pub reads : to_z w64 (of_z w64 z) ≡ pos size
-  pub small : size < 9223372036854775808
-  pub is : natural z ≡ size
-
-pub not_below : (z : ℤ) → SFits w64 z → le_z (pos 0) (to_z w64 (of_z w64 z)) ≡ true → NotBelow z
+natural_max : (z : ℤ) → nat_abs (int_max z (pos 0)) ≡ natural z
 unfolding natural
-not_below (pos n) h t = record { size = n; reads = to_z_pos w64 n h.sfits; small = h.sfits; is = refl }
-not_below (negsuc n) h t =
-    let b = rw (to_z-neg w64 n h.sfits) at t in let z : ◌≡◌ {A = ℕ} 0 1 = cc in absurd (omega arith)
+natural_max (pos zero) = refl
+natural_max (pos (suc n)) = ap (λ (b : Bool). nat_abs (cond b (pos (suc n)) (pos 0))) (lt-ltb 0 (suc n) (omega arith))
+natural_max (negsuc n) = refl
 
-pub below : (z : ℤ) → SFits w64 z → le_z (pos 0) (to_z w64 (of_z w64 z)) ≡ false → natural z ≡ 0
-unfolding natural
-below (pos n) h t = let b = rw (to_z_pos w64 n h.sfits) at t in absurd (omega (arith, leb-false 0 n b))
-below (negsuc n) h t = refl
+-- the larger of an i64 and 0, read as an i64
+pub natural_is : (z m : ℤ) → SFits w64 z → SFits w64 m → m ≡ int_max (to_z w64 (of_z w64 z)) (pos 0) → nat_abs (to_z w64 (of_z w64 m)) ≡ natural z
+natural_is z m fits fits' e =
+    ap nat_abs (to_z-of_z w64 m fits') ∙ ap nat_abs e ∙ ap (λ (x : ℤ). nat_abs (int_max x (pos 0))) (to_z-of_z w64 z fits) ∙ natural_max z
 
 -- what a function gives of an i64 that was handed to it
 pub value_is : (z : ℤ) → SFits w64 z → {v : ℕ} → v ≡ natural (to_z w64 (of_z w64 z)) → v ≡ natural z

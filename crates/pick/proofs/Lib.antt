@@ -1,2 +1,3 @@
 -- Laws of the end of a pick.
 pub mod Replacing
+pub mod Kept

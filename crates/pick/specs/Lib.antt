@@ -1,3 +1,2 @@
--- The end of a pick, and what a pick over lent lists promises.
-pub mod Settled
+-- What a pick over lent lists promises.
 pub mod Picks

@@ -9,7 +9,7 @@ use Rattle.searches.specs.Search.{Search}
 use Rattle.searches.specs.Pick.{pick_check}
 use Rattle.search.specs.Refused.{pick_first}
 use Rattle.refusals.proofs.Accepted.{first_before, first_behind}
-use Rattle.search.proofs.Firsts.{none_before}
+use Rattle.search.proofs.Firsts.{none_before, within_limits}
 use Rattle.pick_steps.specs.Steps.{numbers_of}
 
 module _ (p : Problem) (s : Search) (place places : ℕ) (g : Given) where
@@ -27,3 +27,6 @@ module _ (p : Problem) (s : Search) (place places : ℕ) (g : Given) where
   pub first_none : numbers_of p s place places g ≡ none → pick_first p s place places ≡ none
   unfolding pick_first
   first_none e = none_before _ (record_checks p g) (sym parts ∙ e)
+
+-- the goals of `checked`
+pub ruleset number_rules = (numbers_first, numbers_then, within_limits)

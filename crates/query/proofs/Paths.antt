@@ -11,7 +11,8 @@ use borrow.Author.Tests.{ltb-true}
 use Rattle.knapsack.proofs.Cases.{by_test}
 use Rattle.calls.specs.Compile.{Lent, compile}
 use Rattle.compile.specs.declared.Request.{Request}
-use Rattle.compile.specs.declared.Answer.{Answer}
+use Rattle.std.specs.Prelude.{Result}
+use Rattle.compile.specs.declared.Compiled.{Compiled}
 use Rattle.compile.specs.Asked.{request_of}
 use Rattle.compile.specs.Answered.{Answers}
 use Rattle.query.specs.declared.Query.{Query}
@@ -23,7 +24,7 @@ path_taken q l =
     let d = q.root.depth in
     by_test (λ (b : Bool). take (cond b 64 d) p ≡ take d p) (ltb 64 d) (λ h. take_all 64 p (omega (arith, l)) ∙ sym (take_all d p (omega (arith, l, ltb-true 64 d h)))) (λ h. refl)
 
-pub answers_asked : (q : Query) (r : Request) (k : ℕ) → r ≡ request_in q → k ≡ path_length q → length q.root.path ≡ 64 → (ws ps : List ℕ) (l : Lent) (a : Answer) (ns es rs : List ℕ) → Answers (compile (request_of ws ps r (take k q.root.path)) l) a ns es rs → Answers (compile (asked_by ws ps q) l) a ns es rs
+pub answers_asked : (q : Query) (r : Request) (k : ℕ) → r ≡ request_in q → k ≡ path_length q → length q.root.path ≡ 64 → (ws ps : List ℕ) (l : Lent) (a : Result Compiled ℕ) (ns es rs : List ℕ) → Answers (compile (request_of ws ps r (take k q.root.path)) l) a ns es rs → Answers (compile (asked_by ws ps q) l) a ns es rs
 answers_asked q r k request-is length-is long ws ps l a ns es rs h =
     let path_is : take k q.root.path ≡ path_in q = ap (λ (n : ℕ). take n q.root.path) length-is ∙ path_taken q long in
     subst (λ (x : Request). Answers (compile (request_of ws ps x (path_in q)) l) a ns es rs) request-is

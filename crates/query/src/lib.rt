@@ -5,11 +5,13 @@ ghost use Rattle.std.specs.Prelude.{◌≡◌};
 ghost use Rattle.calls.specs.Compile.{compile};
 ghost use Rattle.compile.specs.Asked.{lent_of};
 ghost use Rattle.compile.specs.Answered.{Answers};
+ghost use Rattle.reasons.specs.Numbers.{numbered};
 ghost use Rattle.query.specs.Queried.{request_in, path_length, asked_by};
 
-use compile::{Answer, Request};
+use compile::{Compiled, Request};
 use cutset::Kind;
 use grow::Mode;
+use reasons::Refusal;
 use records::Record;
 
 // What a compile of a record struct is asked: the page and how to compile it, and the record.
@@ -26,19 +28,16 @@ pub struct Query {
 fn request_in(q: Query) -> Request
     ensures { result ≡ request_in q }
 {
-    let r = q.root;
-    let mode = q.mode;
-    let kind = q.kind;
     Request {
         page: q.page,
         width: q.width,
-        mode: mode,
-        kind: kind,
+        mode: q.mode,
+        kind: q.kind,
         lower: q.lower,
-        capacity: r.capacity,
-        value: r.value,
-        bound: r.bound,
-        depth: r.depth,
+        capacity: q.root.capacity,
+        value: q.root.value,
+        bound: q.root.bound,
+        depth: q.root.depth,
     }
 }
 
@@ -46,8 +45,7 @@ fn request_in(q: Query) -> Request
 fn path_length(q: Query) -> usize
     ensures { result ≡ path_length q }
 {
-    let r = q.root;
-    if r.depth > 64 { 64 } else { r.depth as usize }
+    q.root.depth.min(64) as usize
 }
 
 // `compile::compile` of a record struct.
@@ -58,14 +56,11 @@ pub fn compile_record(
     edges: &mut [u64],
     records: &mut [u64],
     q: Query,
-) -> Answer
+) -> Result<Compiled, Refusal>
     ensures { Answers
         (compile (asked_by weights.now profits.now q) (lent_of nodes.old edges.old records.old))
-        result nodes.new edges.new records.new }
+        (numbered result) nodes.new edges.new records.new }
 {
-    let request = request_in(q);
-    let k = path_length(q);
-    let root = q.root;
-    let path = root.path;
-    compile::compile(weights, profits, nodes, edges, records, request, &path[..k])
+    let path = &q.root.path[..path_length(q)];
+    compile::compile(weights, profits, nodes, edges, records, request_in(q), path)
 }

@@ -146,3 +146,22 @@ passed best at t ys j k zs a e =
       same = a.same;
       holds = a.holds ∙ ap (λ (ps : List Place). filled at ps (places ys)) same;
     }
+
+-- ---- one turn of the loop, in the words of its goals; the best value is read as bits, whose number b is
+
+-- the place for a record that is above is in the list
+pub free : (best b : ℤ) (at : ℕ) (t : List ℕ) (ys zs : List Record) (j k n : ℕ) → b ≡ best → After b at t ys j k zs → j < n → at + length (above_of best t n) ≤ length ys → lt_z b (record_in t j).bound ≡ true → k < length zs
+free best b at t ys zs j k n e a lt room above =
+    let r : at + length (above_of b t n) ≤ length ys = rw e room in
+    omega (arith, has_room b at t ys j k n a.count lt r above, a.same)
+
+pub put : (b : ℤ) (at : ℕ) (t : List ℕ) (ys zs zs' : List Record) (j k k' : ℕ) (r : Record) → After b at t ys j k zs → k < length zs → lt_z b (record_in t j).bound ≡ true → r ≡ record_in t j → k' ≡ k + 1 → zs' ≡ set zs k r → After b at t ys (j + 1) k' zs'
+put b at t ys zs zs' j k k' r a lt above read e f = rw (e, f, read) (stored b at t ys j k zs a (omega (arith, a.same)) above)
+
+pub left : (b : ℤ) (at : ℕ) (t : List ℕ) (ys zs zs' : List Record) (j k k' : ℕ) → After b at t ys j k zs → lt_z b (record_in t j).bound ≡ false → k' ≡ k → zs' ≡ zs → After b at t ys (j + 1) k' zs'
+left b at t ys zs zs' j k k' a not_above e f = rw (e, f) (passed b at t ys j k zs a not_above)
+
+-- the goals of `count_above` and of `append_above`
+pub ruleset counting = (above_none_of, above_few, count_one, count_same)
+
+pub ruleset storing = (at_first, free, put, left)

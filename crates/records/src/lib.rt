@@ -38,91 +38,85 @@ pub fn empty() -> Record
 pub fn get(rs: &[Record], i: usize) -> Record
     ensures { result ≡ get_or rs.now i no_record }
 {
-    if i < rs.len() { rs[i] } else { empty() }
+    rs.get(i).copied().unwrap_or(empty())
 }
 
 // Of the first n records those after place `at` move down by one. Place n - 1 and those behind it keep what they held.
+// The list is passed whole, with n beside it, since the promise speaks of the places behind the first n too.
+#[tactic(auto, using(crate::proofs::Removing::removed))]
 pub fn remove(rs: &mut [Record], at: usize, n: usize)
     requires { (at < n) × (n ≤ length rs.old) }
     ensures { Removed at n (places rs.old) (places rs.new) }
 {
-    let mut j = at + 1;
-    while j < n {
-        rs[j - 1] = rs[j];
-        j += 1;
-    }
+    rs.copy_within(at + 1..n, at);
 }
 
 // A path's bytes, one in each word from place `from` on.
+#[tactic(auto, using(crate::proofs::Words::bytes_read))]
 fn read_path(words: &[u64], from: usize) -> [u8; 64]
     requires { from + 64 ≤ length words.now }
     ensures { result ≡ bytes_in words.now from }
 {
     let mut path = [0u8; 64];
-    let mut i = 0;
-    while i < PATH_ROOM {
+    for i in 0..PATH_ROOM {
         path[i] = (words[from + i] % 256) as u8;
-        i += 1;
     }
     path
 }
 
 // Record number i of a flat list of words.
+#[tactic(auto, using(crate::proofs::Words::record_read))]
 pub fn from_words(words: &[u64], i: usize) -> Record
     requires { i * record_words + record_words ≤ length words.now }
     ensures { result ≡ record_in words.now i }
 {
     let at = i * RECORD_WORDS;
-    let value = words::number(words[at + 1]);
-    let bound = words::number(words[at + 2]);
-    let path = read_path(words, at + 4);
     Record {
         capacity: words[at],
-        value: value,
-        bound: bound,
+        value: words::number(words[at + 1]),
+        bound: words::number(words[at + 2]),
         depth: words[at + 3],
-        path: path,
+        path: read_path(words, at + 4),
     }
 }
 
 // Whether the bound of record number i is strictly above the best value.
+#[tactic(auto, unfolding(crate::specs::Structs::record_in))]
 fn is_above(words: &[u64], i: usize, best: i64) -> bool
     requires { i * record_words + record_words ≤ length words.now }
     ensures { result ≡ lt_z best (record_in words.now i).bound }
 {
-    let bound = words::number(words[i * RECORD_WORDS + 2]);
-    best < bound
+    best < words::number(words[i * RECORD_WORDS + 2])
 }
 
-// How many of the first n records have a bound strictly above the best value.
+// How many of the first n records have a bound strictly above the best value. The number stays beside the words: a slice of so many would have to be of whole records.
+// A `for`: of `(0..n).filter(..).count()` over `is_above` the check proved no count.
+#[tactic(auto, using(crate::proofs::Chosen::counting))]
 pub fn count_above(words: &[u64], n: usize, best: i64) -> usize
     requires { n * record_words ≤ length words.now }
     ensures { result ≡ length (above_best best (places_in n words.now)) }
 {
     let mut k = 0;
-    let mut j = 0;
-    while j < n {
+    for j in 0..n {
         if is_above(words, j, best) {
             k += 1;
         }
-        j += 1;
     }
     k
 }
 
 // Stores those of the first n records of the words whose bound is strictly above the best value at place `at` and behind it, in order, and answers the new count.
+#[tactic(auto, using(crate::proofs::Chosen::storing))]
 pub fn append_above(rs: &mut [Record], at: usize, words: &[u64], n: usize, best: i64) -> usize
     requires { (n * record_words ≤ length words.now) × (at + length (above_best best (places_in n words.now)) ≤ length rs.old) }
     ensures { Appended at (above_best best (places_in n words.now)) (places rs.old) result (places rs.new) }
 {
     let mut k = at;
-    let mut j = 0;
-    while j < n {
+    for j in 0..n {
         if is_above(words, j, best) {
             rs[k] = from_words(words, j);
             k += 1;
         }
-        j += 1;
     }
     k
 }

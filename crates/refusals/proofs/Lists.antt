@@ -1,41 +1,23 @@
--- The tests of 4, 5 and 8 over the rest of a list or the items below a number, as a loop goes through them.
-use Prim.Native.Nat.{ℕ, zero, suc, ◌+◌, ◌≤◌, ◌<◌}
-use mathlib.Core.Path.{◌≡◌}
-use mathlib.Core.Bool.{true, false, cond, ◌||◌}
-use mathlib.Core.List.{List, [], ◌∷◌}
-use native.Mathlib.Omega.{arith}
-use native.Mathlib.Numerals.{add-one}
-use lib.Dec.{ltb, eqb}
-use lib.ListN.{length, get_or, drop, drop_of_length-le}
-use lib.Seq.{drop-cons}
-use borrow.Author.Tests.{ltb-false, lt-ltb, le-ltb, eq-eqb, ne_eqb}
+-- The tests of 4, 5 and 8 as std's words on lists, as an iterator answers them, and what they say of each number.
+use Rattle.std.proofs.Common.{ℕ, zero, suc, ◌≡◌, ◌+◌, ◌≤◌, Bool, true, false, cond, ◌&&◌, ◌||◌, ltb, eqb, List, [], ◌∷◌, ◌++◌, get_or, refl, ap, ◌∙◌, arith, add-zero, zero-add, count_by}
+use Rattle.std.specs.List.{list_any, list_all, range_with_len}
+use Rattle.std.proofs.lemmas.List.Recursion.{same_from_clauses, is_count_by, and_push}
+use borrow.Author.Tests.{ltb-false}
 use Rattle.knapsack.specs.Items.{item_of}
 use Rattle.knapsack.proofs.Cases.{by_test}
 use Rattle.calls.specs.Rows.{namings}
 use Rattle.calls.specs.Refusals.{some_above, each_once}
 
--- the rest of a list from i on: its first number, and the rest behind that
-pub rest : (xs : List ℕ) (i : ℕ) → i < length xs → drop i xs ≡ get_or xs i 0 ∷ drop (i + 1) xs
-rest xs i h = rw (add-one, drop-cons xs i 0 h)
-
-pub above_here : (limit : ℕ) (xs : List ℕ) (i : ℕ) → i < length xs → limit < get_or xs i 0 → true ≡ some_above limit (drop i xs)
+pub any_above : (limit : ℕ) (xs : List ℕ) → list_any (ltb limit) xs ≡ some_above limit xs
 unfolding some_above
-above_here limit xs i h l = rw (rest xs i h, lt-ltb limit (get_or xs i 0) l)
-
-pub above_later : (limit : ℕ) (xs : List ℕ) (i : ℕ) → i < length xs → get_or xs i 0 ≤ limit → some_above limit (drop (i + 1) xs) ≡ some_above limit (drop i xs)
-unfolding some_above
-above_later limit xs i h l = rw (rest xs i h, le-ltb limit (get_or xs i 0) l)
-
-pub above_none : (limit : ℕ) (xs : List ℕ) (i : ℕ) → length xs ≤ i → false ≡ some_above limit (drop i xs)
-unfolding some_above
-above_none limit xs i h = rw (drop_of_length-le xs {i = i} h)
+any_above limit = same_from_clauses (list_any (ltb limit)) (some_above limit) (λ x b. ltb limit x || b) refl (λ _ _. refl) (λ _ _. refl)
 
 -- where none is above, each is in the limit
 none_above : (limit x : ℕ) (xs : List ℕ) → some_above limit (x ∷ xs) ≡ false → (x ≤ limit) × (some_above limit xs ≡ false)
 unfolding some_above
 none_above limit x xs =
     by_test (λ t. (t || some_above limit xs) ≡ false → (x ≤ limit) × (some_above limit xs ≡ false)) (ltb limit x)
-    (λ t e. let z : ◌≡◌ {A = ℕ} 0 1 = cc in absurd (omega arith))
+    (λ t e. absurd cc)
     (λ t e. (ltb-false limit x t, e))
 
 pub all_in_limit : (limit : ℕ) (xs : List ℕ) → some_above limit xs ≡ false → (d : ℕ) → get_or xs d 0 ≤ limit
@@ -43,31 +25,31 @@ all_in_limit limit [] e d = omega arith
 all_in_limit limit (x ∷ xs) e zero = (none_above limit x xs e).0
 all_in_limit limit (x ∷ xs) e (suc d) = all_in_limit limit xs (none_above limit x xs e).1 d
 
-pub namings_turn : (item : ℕ) (path : List ℕ) (i : ℕ) → i < length path → namings item (drop i path) ≡ cond (eqb (item_of (get_or path i 0)) item) 1 0 + namings item (drop (i + 1) path)
+pub namings_count : (item : ℕ) (path : List ℕ) → namings item path ≡ count_by (λ b. eqb (item_of b) item) path
 unfolding namings
-namings_turn item path i h = rw (rest path i h)
+namings_count item = is_count_by (namings item) (λ b. eqb (item_of b) item) refl step
+  where
+    step : (b : ℕ) (bs : List ℕ) → cond (eqb (item_of b) item) 1 0 + namings item bs ≡ cond (eqb (item_of b) item) (1 + namings item bs) (namings item bs)
+    step b bs = by_test (λ t. cond t 1 0 + namings item bs ≡ cond t (1 + namings item bs) (namings item bs)) (eqb (item_of b) item) (λ _. refl) (λ _. omega arith)
 
-pub namings_done : (item : ℕ) (path : List ℕ) (i : ℕ) → length path ≤ i → namings item (drop i path) ≡ 0
-unfolding namings
-namings_done item path i h = rw (drop_of_length-le path {i = i} h)
+-- the numbers from a on, with one more at their end
+range_more : (a n : ℕ) → range_with_len a (suc n) ≡ range_with_len a n ++ (a + n) ∷ []
+range_more a zero = rw add-zero refl
+range_more a (suc n) = rw (range_more (a + 1) n) (let e : a + 1 + n ≡ a + suc n = omega arith in rw e refl)
 
-pub namings_limit : (item : ℕ) (path : List ℕ) → namings item path ≤ length path
-unfolding namings
-namings_limit item [] = omega arith
-namings_limit item (b ∷ bs) =
-    by_test (λ t. cond t 1 0 + namings item bs ≤ suc (length bs)) (eqb (item_of b) item)
-    (λ e. omega (arith, namings_limit item bs))
-    (λ e. omega (arith, namings_limit item bs))
+and-comm : (a b : Bool) → (a && b) ≡ (b && a)
+and-comm true true = refl
+and-comm true false = refl
+and-comm false true = refl
+and-comm false false = refl
 
--- the items below d are e = d - 1 and those below e
-pub once_here : (d e : ℕ) (path : List ℕ) → d ≡ suc e → namings e path ≡ 1 → each_once e path ≡ each_once d path
+-- a test of each item below d, from the first one on
+pub all_once : (d : ℕ) (path : List ℕ) → list_all (λ k. eqb (namings k path) 1) (range_with_len 0 d) ≡ each_once d path
 unfolding each_once
-once_here d e path q n = rw (q, eq-eqb (namings e path) 1 n)
-
-pub not_once : (d e : ℕ) (path : List ℕ) → d ≡ suc e → (namings e path ≡ 1 → ⊥) → false ≡ each_once d path
-unfolding each_once
-not_once d e path q n = rw (q, ne_eqb (namings e path) 1 n)
-
-pub once_none : (d : ℕ) (path : List ℕ) → d ≤ 0 → true ≡ each_once d path
-unfolding each_once
-once_none d path h = let q : d ≡ 0 = omega arith in rw q
+all_once zero path = refl
+all_once (suc d) path =
+    ap (list_all once) (range_more 0 d) ∙ and_push (list_all once) once refl (λ _ _. refl) (range_with_len 0 d) (0 + d)
+    ∙ rw (zero-add, all_once d path) (and-comm (each_once d path) (eqb (namings d path) 1))
+  where
+    once : ℕ → Bool
+    once k = eqb (namings k path) 1

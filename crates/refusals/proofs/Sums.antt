@@ -1,23 +1,30 @@
 -- The sums of 9 over the rest of a path, as a loop adds them up, and 9's two comparisons as the code makes them.
-use Prim.Native.Nat.{ℕ, ◌+◌, ◌-◌, ◌*◌, ◌≤◌, ◌<◌}
+use Prim.Native.Nat.{ℕ, ◌+◌, ◌-◌, ◌*◌, ◌^◌, ◌≤◌, ◌<◌}
 use mathlib.Core.Path.{◌≡◌, refl, sym, ap, ◌∙◌}
 use mathlib.Core.Logic.{by_cases}
-use mathlib.Core.Bool.{false, cond}
+use mathlib.Core.Bool.{true, false, cond}
 use mathlib.Core.List.{List, [], ◌∷◌}
 use native.Mathlib.Decide.{ℕ_discrete}
 use native.Mathlib.Omega.{arith}
 use lib.Dec.{eqb}
-use lib.IntN.{ℤ, pos, negsuc}
+use lib.IntN.{ℤ, pos, negsuc, nat_abs}
+use mir.Syntax.{w64}
+use mir.Val.{SFits}
+use Rattle.std.specs.Int.{FitsUnsignedBits}
 use lib.ListN.{length, get_or, drop, drop_of_length-le}
+use lib.Seq.{drop-cons}
+use native.Mathlib.Numerals.{add-one}
 use borrow.Author.Tests.{eq-eqb, ne_eqb}
-use Rattle.words.specs.I64.{mid, word}
 use Rattle.knapsack.specs.Items.{Item, items_of, counted, item_of, is_take}
 use Rattle.knapsack.specs.Limits.{InLimits}
 use Rattle.knapsack.proofs.Cases.{by_test}
 use Rattle.knapsack.proofs.Limits.{item_at, counted_in_limits}
 use Rattle.calls.specs.Rows.{taken_weight, taken_profit}
 use Rattle.calls.specs.Refusals.{is_natural}
-use Rattle.refusals.proofs.Lists.{rest}
+
+-- the rest of a list from i on: its first number, and the rest behind that
+rest : (xs : List ℕ) (i : ℕ) → i < length xs → drop i xs ≡ get_or xs i 0 ∷ drop (i + 1) xs
+rest xs i h = rw (add-one, drop-cons xs i 0 h)
 
 module _ (ws ps : List ℕ) (limits : InLimits ws ps) where
   -- what one byte takes and earns
@@ -49,11 +56,21 @@ module _ (ws ps : List ℕ) (limits : InLimits ws ps) where
   profit_limit [] = omega arith
   profit_limit (b ∷ bs) = omega (arith, profit_cons b bs, byte_earns b, profit_limit bs)
 
-  pub weight_turn : (path : List ℕ) (i : ℕ) → i < length path → taken_weight (items_of ws ps) (drop i path) ≡ cond (is_take (get_or path i 0)) (counted (get_or ws (item_of (get_or path i 0)) 0)) 0 + taken_weight (items_of ws ps) (drop (i + 1) path)
-  weight_turn path i h = ap (taken_weight (items_of ws ps)) (rest path i h) ∙ weight_cons (get_or path i 0) (drop (i + 1) path)
+  -- the sums of a path from byte i on: what the byte adds, where it takes its item, and those behind it
+  module _ (path : List ℕ) (i : ℕ) (h : i < length path) where
+    pub weight_taken : is_take (get_or path i 0) ≡ true → (item weight counts : ℕ) → item ≡ item_of (get_or path i 0) → weight ≡ get_or ws item 0 → counts ≡ counted weight → taken_weight (items_of ws ps) (drop i path) ≡ counts + taken_weight (items_of ws ps) (drop (i + 1) path)
+    weight_taken t item weight counts d e f =
+        ap (taken_weight (items_of ws ps)) (rest path i h) ∙ weight_cons (get_or path i 0) (drop (i + 1) path) ∙ rw (t, f, e, d) refl
 
-  pub profit_turn : (path : List ℕ) (i : ℕ) → i < length path → taken_profit (items_of ws ps) (drop i path) ≡ cond (is_take (get_or path i 0)) (get_or ps (item_of (get_or path i 0)) 0) 0 + taken_profit (items_of ws ps) (drop (i + 1) path)
-  profit_turn path i h = ap (taken_profit (items_of ws ps)) (rest path i h) ∙ profit_cons (get_or path i 0) (drop (i + 1) path)
+    pub weight_skipped : is_take (get_or path i 0) ≡ false → taken_weight (items_of ws ps) (drop i path) ≡ taken_weight (items_of ws ps) (drop (i + 1) path)
+    weight_skipped t = ap (taken_weight (items_of ws ps)) (rest path i h) ∙ weight_cons (get_or path i 0) (drop (i + 1) path) ∙ rw t (omega arith)
+
+    pub profit_taken : is_take (get_or path i 0) ≡ true → (item profit : ℕ) → item ≡ item_of (get_or path i 0) → profit ≡ get_or ps item 0 → taken_profit (items_of ws ps) (drop i path) ≡ profit + taken_profit (items_of ws ps) (drop (i + 1) path)
+    profit_taken t item profit d e =
+        ap (taken_profit (items_of ws ps)) (rest path i h) ∙ profit_cons (get_or path i 0) (drop (i + 1) path) ∙ rw (t, e, d) refl
+
+    pub profit_skipped : is_take (get_or path i 0) ≡ false → taken_profit (items_of ws ps) (drop i path) ≡ taken_profit (items_of ws ps) (drop (i + 1) path)
+    profit_skipped t = ap (taken_profit (items_of ws ps)) (rest path i h) ∙ profit_cons (get_or path i 0) (drop (i + 1) path) ∙ rw t (omega arith)
 
 pub weight_done : (items : List Item) (path : List ℕ) (i : ℕ) → length path ≤ i → taken_weight items (drop i path) ≡ 0
 unfolding taken_weight
@@ -78,12 +95,13 @@ page_made taken left page h = same_eqb taken (page - left) (taken + left) page (
 pub page_passed : (taken left page : ℕ) → page < left → false ≡ eqb (taken + left) page
 page_passed taken left page h = sym (ne_eqb (taken + left) page (λ e. omega arith))
 
-pub natural_word : (z : ℤ) (n : ℕ) → mid ≤ word z → eqb (word z - mid) n ≡ is_natural z n
-unfolding word is_natural
-natural_word (pos m) n h = let e : mid + m - mid ≡ m = omega arith in rw e
-natural_word (negsuc m) n h = absurd (omega arith)
+-- a number that an i64 is, and an i64 that is no number of u64
+pub natural_is : (z : ℤ) (m n : ℕ) → FitsUnsignedBits 64 z → m ≡ nat_abs z → eqb m n ≡ is_natural z n
+unfolding is_natural
+natural_is (pos k) m n h e = ap (λ (x : ℕ). eqb x n) e
+natural_is (negsuc k) m n h e = absurd h
 
-pub negative_word : (z : ℤ) (n : ℕ) → word z < mid → false ≡ is_natural z n
-unfolding word is_natural
-negative_word (pos m) n h = absurd (omega arith)
-negative_word (negsuc m) n h = refl
+pub natural_none : (z : ℤ) (n : ℕ) → SFits w64 z → (FitsUnsignedBits 64 z → ⊥) → false ≡ is_natural z n
+unfolding is_natural
+natural_none (pos k) n f h = let l : k < 2 ^ 63 = f.sfits in absurd (h (omega arith))
+natural_none (negsuc k) n f h = refl

@@ -1,12 +1,12 @@
 // A node or an edge by value, read from and written to the words of its row, and a record written. No other code knows where a node's or an edge's words stand; a record's are also read in `records`.
 #![tactic(auto)]
 
-ghost use Rattle.std.specs.Prelude.{◌≡◌, ◌+◌, ◌*◌, ◌≤◌, length};
+ghost use Rattle.std.specs.Prelude.{◌≡◌, ◌+◌, ◌*◌, ◌^◌, ◌<◌, ◌≤◌, length, MatchOption};
 ghost use Rattle.std.proofs.Math.Seq.{paste};
 ghost use Rattle.layout.specs.Records.{record_words};
 ghost use Rattle.rows.specs.Values.{node_of, edge_of};
 ghost use Rattle.rows.specs.Access.{NodeRead, FieldRead, NodeWritten, EdgeRead, EdgeWritten, RecordWritten};
-ghost use Rattle.layout.specs.Rows.{edge_words, node_words, digit, flags_word};
+ghost use Rattle.layout.specs.Rows.{edge_words, node_words, flags_word};
 
 // How many words a row or a record has.
 pub const NODE_WORDS: usize = 8;
@@ -19,16 +19,39 @@ pub const RECORD_WORDS: usize = 68;
 pub const PATH_ROOM: usize = 64;
 
 // The number of a node: its row in the node table.
-#[derive(Clone, Copy)]
+#[derive(Clone, Copy, PartialEq, Eq)]
 pub struct NodeId(pub usize);
 
 // The number of an edge: its row in the edge table.
-#[derive(Clone, Copy)]
+#[derive(Clone, Copy, PartialEq, Eq)]
 pub struct EdgeId(pub usize);
 
-// An edge or none, as it stands in a row: 0 for none, e + 1 for edge e.
-#[derive(Clone, Copy)]
+// An edge or none, as it stands in a row: 0 for none, e + 1 for edge e. It stays that word, and no Option<EdgeId>: a row that is written takes every word, also one that no edge has.
+#[derive(Clone, Copy, PartialEq, Eq)]
 pub struct Link(pub u64);
+
+impl Link {
+    // No edge.
+    pub const NONE: Link = Link(0);
+
+    // The link that leads to an edge.
+    pub fn to(e: EdgeId) -> Link
+        requires { e.0 + 1 < 2 ^ 64 }
+        ensures { result.0 ≡ e.0 + 1 }
+    {
+        Link(e.0 as u64 + 1)
+    }
+
+    // The edge that a link leads to, if any.
+    pub fn edge(self) -> Option<EdgeId>
+        ensures { MatchOption result (self.0 ≡ 0) (λ e. self.0 ≡ e.0 + 1) }
+    {
+        match self.0 {
+            0 => None,
+            word => Some(EdgeId(word as usize - 1)),
+        }
+    }
+}
 
 // A row of the node table. Value, bottom and fast are i64 numbers as words: number + 2^63.
 #[derive(Clone, Copy)]
@@ -57,7 +80,8 @@ pub struct Edge {
     pub next: Link,
 }
 
-// Row n of a table of nodes, or of a part of one that starts at a row.
+// Row n of a table of nodes, or of a part of one that starts at a row. That the row lies in the table is asked here and below as an index's bound is: a type for it would hold the table.
+#[tactic(auto, using(crate::proofs::Access::node_read))]
 pub fn read_node(nodes: &[u64], n: NodeId) -> Node
     requires { n.0 * node_words + node_words ≤ length nodes.now }
     ensures { NodeRead nodes.now n.0 (node_of result) }
@@ -80,17 +104,15 @@ pub fn read_node(nodes: &[u64], n: NodeId) -> Node
     }
 }
 
-fn bit(b: bool) -> u64
-    ensures { (result ≡ digit b) × (result ≤ 1) }
-{
-    if b { 1 } else { 0 }
-}
-
 // The word of a node's flags.
 fn flags_word(n: Node) -> u64
     ensures { result ≡ flags_word n.exact n.relaxed n.marked n.cutset n.deleted }
 {
-    bit(n.exact) + 2 * bit(n.relaxed) + 4 * bit(n.marked) + 8 * bit(n.cutset) + 16 * bit(n.deleted)
+    u64::from(n.exact)
+        + 2 * u64::from(n.relaxed)
+        + 4 * u64::from(n.marked)
+        + 8 * u64::from(n.cutset)
+        + 16 * u64::from(n.deleted)
 }
 
 // Writes row n of such a table: one that is there, or the next.
@@ -111,6 +133,7 @@ pub fn write_node(nodes: &mut [u64], n: NodeId, x: Node)
 }
 
 // Row e of a table of edges.
+#[tactic(auto, using(crate::proofs::Access::edge_read))]
 pub fn read_edge(edges: &[u64], e: EdgeId) -> Edge
     requires { e.0 * edge_words + edge_words ≤ length edges.now }
     ensures { EdgeRead edges.now e.0 (edge_of result) }
@@ -146,7 +169,7 @@ pub fn read_capacity(nodes: &[u64], n: NodeId) -> u64
     nodes[n.0 * NODE_WORDS]
 }
 
-// A node's value alone, as its word.
+// A node's value alone, as its word. It stays beside read_capacity: one function for both would take the place as a number, and these two lines name the field.
 pub fn read_value(nodes: &[u64], n: NodeId) -> u64
     requires { n.0 * node_words + node_words ≤ length nodes.now }
     ensures { FieldRead nodes.now n.0 (λ x. x.value) result }
@@ -159,17 +182,9 @@ fn write_path(list: &mut [u64], from: usize, bytes: [u8; 64])
     requires { from + 64 ≤ length list.old }
     ensures { list.new ≡ paste list.old from bytes 64 }
 {
-    let mut i = 0;
-    while i < PATH_ROOM {
-        list[from + i] = wide(bytes[i]);
-        i += 1;
+    for (i, byte) in bytes.iter().enumerate() {
+        list[from + i] = u64::from(*byte);
     }
-}
-
-fn wide(b: u8) -> u64
-    ensures { result ≡ b }
-{
-    b as u64
 }
 
 // Writes record number r of a list behind those that are there, `bytes` its path with 0 in the places past it.

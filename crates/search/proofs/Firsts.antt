@@ -8,7 +8,8 @@ use Prim.Native.Nat.{ℕ, ◌<◌, ◌≤◌}
 use native.Mathlib.Omega.{arith}
 use lib.Dec.{ltb, eqb}
 use lib.ListN.{length}
-use borrow.Author.Tests.{eq-eqb, ne_eqb, lt-ltb, le-ltb, ltb-true, ltb-false, eqb-false, not-false}
+use borrow.Author.Tests.{eq-eqb, ne_eqb, ltb-true, ltb-false, eqb-false, not-false}
+use Rattle.knapsack.specs.Limits.{InLimits}
 use Rattle.calls.specs.Asked.{Problem}
 use Rattle.calls.specs.Refusals.{Check, first_of, problem_checks, record_checks}
 use Rattle.refusals.specs.Passed.{Passed}
@@ -58,21 +59,6 @@ module _ (p : Problem) (s : Search) (place places : ℕ) (e : first_of (problem_
   unfolding pick_first pick_check
   pick_passes h = applies_not 14 _ h ∙ sym (first_behind (problem_checks p) _ e)
 
--- 14 by the code's tests
-module _ (s : Search) (place places : ℕ) where
-  pub not_open : s.opened ≤ place → true ≡ (pick_check s place places).applies
-  unfolding pick_check
-  not_open h = simp (le-ltb place s.opened h)
-
-  module _ (below : place < s.opened) where
-    pub list_short : places < s.opened → true ≡ (pick_check s place places).applies
-    unfolding pick_check
-    list_short h = simp (lt-ltb place s.opened below, lt-ltb places s.opened h)
-
-    pub by_count : s.opened ≤ places → eqb s.picks most_picks ≡ (pick_check s place places).applies
-    unfolding pick_check
-    by_count room = simp (lt-ltb place s.opened below, le-ltb places s.opened room)
-
 -- ---- the two parts of a pick's refusals are the whole: 1 to 6, 14, 7 to 9
 
 parts : (q : Asked) (s : Search) (list : List Place) → pick_refusal q s list ≡ first_of ((problem_checks q.problem ++ (pick_check s q.place (length list) ∷ [])) ++ record_checks q.problem (picked_from list q.place))
@@ -120,3 +106,9 @@ allowed p s place places e =
       room = ltb-false _ _ t2.0;
       countable = eqb-false _ _ t2.1;
     }
+
+pub within_limits : (p : Problem) (s : Search) (place places : ℕ) → none ≡ pick_first p s place places → InLimits p.weights p.profits
+within_limits p s place places e = (allowed p s place places (sym e)).passed.limits
+
+-- the goals of `pick_verdict`
+pub ruleset pick_rules = (pick_before, unpickable_14, pick_passes)

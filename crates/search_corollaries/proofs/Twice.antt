@@ -10,6 +10,7 @@ use lib.Dec.{leb}
 use lib.ListN.{length, get_or, take, drop}
 use lib.Seq.{take_at, drop-append-add}
 use lib.Signed.{lt_z}
+use Rattle.std.specs.Prelude.{Result}
 use Rattle.calls.specs.Asked.{Given}
 use Rattle.calls.specs.Refusals.{first_of, record_checks}
 use Rattle.layout.specs.Table.{words_of, over}
@@ -18,15 +19,15 @@ use Rattle.calls.specs.Compile as Call
 use Rattle.calls.specs.Compile.{Lent, Rooms, rooms_of, refused, compiled, Effect, compile_effect, after}
 use Rattle.searches.specs.Places.{Place, given_at, no_place, over_places}
 use Rattle.searches.specs.Search.{Search, open_in, without}
-use Rattle.searches.specs.Pick as Pick
 use Rattle.searches.specs.Pick.{Asked, Held, After, pick_refusal, picked_from, request_for, refusing, accepting, better, one_pick_more, if_room, appended, drained_places, after_compile, if_above, unless, pick}
 use Rattle.search.specs.Refused.{pick_first}
 use Rattle.search.proofs.Firsts.{refused_first, then_record, allowed}
-use Rattle.search.specs.declared.Picked.{Picked}
-use Rattle.search.specs.Answered as Code
+use Rattle.search.specs.declared.Search as Code
+use Rattle.search.specs.Answered as Answers
 use Rattle.compile.specs.Asked.{lent_of}
 use Rattle.pick.specs.Picks.{Picks}
-use Rattle.search_corollaries.specs.Twice.{SameInput, PickedAlike, OnePick}
+use Rattle.pick.proofs.Kept.{search_after_is}
+use Rattle.search_corollaries.specs.Twice.{SameInput, opened_after, PickedAlike, OnePick}
 
 -- a place among the first n is the same in two lists whose first n are
 same_place : (n i : ℕ) (xs ys : List Place) → i < n → take n xs ≡ take n ys → get_or xs i no_place ≡ get_or ys i no_place
@@ -156,11 +157,7 @@ module _ (q : Asked) (s : Search) (h k : Held) (same : SameInput s h k) where
 
 -- ---- of calls
 
-opened_of : (x : Pick.Picked) (s : Search) (p : Picked) → p ≡ Code.picked_from x s → p.search.opened ≡ s.opened
-opened_of (Pick.refused_by n) s p e = ap (λ (u : Picked). u.search.opened) e
-opened_of Pick.accepted s p e = ap (λ (u : Picked). u.search.opened) e
-
-lent_of_lem : (d : After) (p : Picked) (ns es r : List ℕ) (l : List Place) → Picks d p ns es l r → lent_of ns es r ≡ d.held.lent
+lent_of_lem : (d : After) (p : Result Code.Search ℕ) (ns es r : List ℕ) (l : List Place) → Picks d p ns es l r → lent_of ns es r ≡ d.held.lent
 lent_of_lem d p ns es r l x = rw (x.nodes_are, x.edges_are, x.scratch_is) refl
 
 pub one_pick : OnePick
@@ -169,10 +166,10 @@ one_pick q s h k same p p' ns es r ns' es' r' l l' x y =
     let d = pick q s h in
     let e = pick q s k in
     let z = picks_alike q s h k same in
-    let n : p.search.opened ≡ d.search.opened = opened_of d.answer d.search p x.answered in
-    let n' : p'.search.opened ≡ e.search.opened = opened_of e.answer e.search p' y.answered in
+    let n : opened_after p s ≡ d.search.opened = ap (λ (u : Search). u.opened) (search_after_is q s h p x.answered) in
+    let n' : opened_after p' s ≡ e.search.opened = ap (λ (u : Search). u.opened) (search_after_is q s k p' y.answered) in
     record {
-      answers = x.answered ∙ ap₂ Code.picked_from z.answers z.searches ∙ sym y.answered;
+      answers = x.answered ∙ ap₂ Answers.picked_from z.answers z.searches ∙ sym y.answered;
       opened = ap₂ (take {A = Place}) n x.list_is ∙ z.opened ∙ sym (ap₂ (take {A = Place}) n' y.list_is);
       beyond =
           (ap₂ (drop {A = Place}) n x.list_is ∙ z.beyond.0 ∙ ap (λ (m : ℕ). drop m h.list) (sym n), ap₂ (drop {A = Place}) n' y.list_is ∙ z.beyond.1 ∙ ap (λ (m : ℕ). drop m k.list) (sym n'));

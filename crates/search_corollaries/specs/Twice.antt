@@ -1,11 +1,13 @@
 -- Two picks on equal input: the same question, search and open records in lists of one length, as many whole rows and scratch places; all else that is lent may differ.
-use Rattle.std.specs.Prelude.{◌≡◌, List, ℕ, length, take, drop}
+use Rattle.std.specs.Prelude.{◌≡◌, List, ℕ, length, take, drop, Result}
 use Rattle.calls.specs.Compile.{Lent, Effect, rooms_of, after}
 use Rattle.searches.specs.Places.{Place, over_places}
 use Rattle.searches.specs.Search.{Search, open_in}
 use Rattle.searches.specs.Pick.{Asked, Held, After, pick}
 use Rattle.compile.specs.Asked.{lent_of}
-use Rattle.search.specs.declared.Picked.{Picked}
+use Rattle.search.specs.declared.Search as Code
+use Rattle.search.specs.Held.{search_from}
+use Rattle.search.specs.Answered.{search_after}
 use Rattle.pick.specs.Picks.{Picks}
 
 pub record SameInput (s : Search) (h k : Held) : Type 0 where
@@ -28,11 +30,15 @@ pub record PickedAlike (d e : After) (h k : Held) : Type 0 where
 
 -- ---- of calls
 
--- what two calls answered and left: list and lent tables after each, and before it
-pub record AnsweredAlike (p p' : Picked) (l l' : List Place) (t t' : Lent) (h k : Held) : Type 0 where
+-- how many records are open after an answer to a pick of search s: a refused one leaves them
+abbrev pub opened_after : Result Code.Search ℕ → Search → ℕ
+opened_after p s = (search_after p (search_from s)).opened
+
+-- what two calls of search s answered and left: list and lent tables after each, and before it
+pub record AnsweredAlike (s : Search) (p p' : Result Code.Search ℕ) (l l' : List Place) (t t' : Lent) (h k : Held) : Type 0 where
   pub answers : p ≡ p'
-  pub opened : take p.search.opened l ≡ take p'.search.opened l'
-  pub beyond : (drop p.search.opened l ≡ drop p.search.opened h.list) × (drop p'.search.opened l' ≡ drop p'.search.opened k.list)
+  pub opened : take (opened_after p s) l ≡ take (opened_after p' s) l'
+  pub beyond : (drop (opened_after p s) l ≡ drop (opened_after p s) h.list) × (drop (opened_after p' s) l' ≡ drop (opened_after p' s) k.list)
   pub placed : List Place
   pub first_list : l ≡ over_places placed h.list
   pub second_list : l' ≡ over_places placed k.list
@@ -42,5 +48,5 @@ pub record AnsweredAlike (p p' : Picked) (l l' : List Place) (t t' : Lent) (h k 
 
 abbrev pub OnePick : Type 0
 OnePick =
-    (q : Asked) (s : Search) (h k : Held) → SameInput s h k → (p p' : Picked) (ns es r ns' es' r' : List ℕ) (l l' : List Place) →
-    Picks (pick q s h) p ns es l r → Picks (pick q s k) p' ns' es' l' r' → AnsweredAlike p p' l l' (lent_of ns es r) (lent_of ns' es' r') h k
+    (q : Asked) (s : Search) (h k : Held) → SameInput s h k → (p p' : Result Code.Search ℕ) (ns es r ns' es' r' : List ℕ) (l l' : List Place) →
+    Picks (pick q s h) p ns es l r → Picks (pick q s k) p' ns' es' l' r' → AnsweredAlike s p p' l l' (lent_of ns es r) (lent_of ns' es' r') h k

@@ -1,78 +1,33 @@
-// The list of records from a request's words, and the parts of an answer.
-use lines::output::{put, put_list, put_path};
-use lines::{flag, number_of};
+// The parts of an answer.
+use lines::number_of;
+use lines::output::Output;
+use reasons::Refusal;
 use records::Record;
-use refusals::Verdict;
 use search::Search;
 
-// The 64 records of a flat list of words.
-pub fn records_of(words: &[u64; 4352]) -> [Record; 64] {
-    let first = records::from_words(words, 0);
-    let mut list = [first; 64];
-    let mut i = 1;
-    while i < 64 {
-        list[i] = records::from_words(words, i);
-        i += 1;
+fn put_record<R: Print>(output: &mut Output<R>, r: &Record) {
+    let value = words::word(r.value);
+    let bound = words::word(r.bound);
+    output.put_all(&[r.capacity, value, bound, r.depth]);
+    output.put_all(&r.path);
+}
+
+// Each record of a list.
+pub fn put_records<R: Print>(output: &mut Output<R>, list: &[Record]) {
+    for r in list {
+        put_record(output, r);
     }
-    list
 }
 
-fn put_record<R: Print>(rt: &R, out: &mut [u8; 65536], at: usize, r: Record) -> usize {
-    let path = r.path;
-    let end = put_list(
-        rt,
-        out,
-        at,
-        &[
-            r.capacity,
-            words::word(r.value),
-            words::word(r.bound),
-            r.depth,
-        ],
-    );
-    put_path(rt, out, end, path)
-}
-
-// The first n records of a list.
-pub fn put_records<R: Print>(
-    rt: &R,
-    out: &mut [u8; 65536],
-    at: usize,
-    list: [Record; 64],
-    n: usize,
-) -> usize {
-    let mut end = at;
-    let mut i = 0;
-    while i < 64 {
-        if n <= i {
-            return end;
-        }
-        end = put_record(rt, out, end, list[i]);
-        i += 1;
-    }
-    end
-}
-
-// The refusal's number, and the search after the call.
+// The refusal's number, and the search after the call: that before it, where it was refused.
 pub fn put_search<R: Print>(
-    rt: &R,
-    out: &mut [u8; 65536],
-    at: usize,
-    verdict: Verdict,
-    s: Search,
-) -> usize {
-    let path = s.path;
-    let end = put_list(
-        rt,
-        out,
-        at,
-        &[
-            number_of(verdict),
-            words::word(s.best),
-            flag(s.held),
-            s.opened as u64,
-            s.picks,
-        ],
-    );
-    put_path(rt, out, end, path)
+    output: &mut Output<R>,
+    answer: Result<Search, Refusal>,
+    before: Search,
+) {
+    output.put(number_of(&answer));
+    let s = answer.unwrap_or(before);
+    let best = words::word(s.best);
+    output.put_all(&[best, u64::from(s.held), s.opened as u64, s.picks]);
+    output.put_all(&s.path);
 }

@@ -2,250 +2,105 @@
 #![tactic(auto)]
 
 mod answers;
-mod over;
 mod requests;
 
-use lines::input::Input;
-use lines::output::put_list;
-use lines::tables::{fill_all, put_tables};
-use lines::{at_most, input, output};
-use records::Record;
+use answers::{put_records, put_search};
+use lines::Answering;
+use lines::input::{Input, Stop};
+use lines::output::Output;
+use lines::tables::{Tables, first_words};
+use requests::Asked;
+use search::Search;
 
-// How far the program has come: its reading, and the bytes of its output that aren't written out yet.
+// The tables and the scratch list whose first words requests are lent.
+// No `Tables`: that and `Answering` are both `lines`'s. No field of it either: tried, and lending its slices on in `turn` isn't covered by the borrow checker.
 #[derive(Drop)]
-struct Stand {
-    input: Input,
-    at: usize,
+struct Replay<'a> {
+    nodes: &'a mut [u64],
+    edges: &'a mut [u64],
+    scratch: &'a mut [u64],
 }
+
+// What stands in the place of a search where a start is refused.
+const NO_SEARCH: Search = Search {
+    best: 0,
+    held: false,
+    path: [0; 64],
+    opened: 0,
+    picks: 0,
+};
 
 // A start, with its answer. It is lent no table and no scratch list, so none of their words changes.
-fn answer_start<R: Print>(
-    rt: &R,
-    out: &mut [u8; 65536],
-    at: usize,
-    head: [u64; 19],
-    weights: &[u64],
-    profits: &[u64],
-    list: [Record; 64],
-) -> usize {
-    let n = at_most(head[11], 64);
-    let ask = requests::ask_of(head);
-    let bound = words::number(head[6]);
-    let a = over::start_over(weights, profits, ask, bound, list, n);
-    let started = a.started;
-    let verdict = started.verdict;
-    let search = started.search;
-    let after = a.list;
-    let first = answers::put_search(rt, out, at, verdict, search);
-    let second = answers::put_records(rt, out, first, after, n);
-    put_list(rt, out, second, &[0, 0, 0])
-}
-
-// A pick over these tables and this scratch list, with its answer but for them.
-fn picked<R: Print>(
-    rt: &R,
-    out: &mut [u8; 65536],
-    at: usize,
-    head: [u64; 19],
-    weights: &[u64],
-    profits: &[u64],
-    path: &[u64; 64],
-    list: [Record; 64],
-    nodes: &mut [u64],
-    edges: &mut [u64],
-    scratch: &mut [u64],
-) -> usize {
-    let n = at_most(head[11], 64);
-    let ask = requests::ask_of(head);
-    let s = requests::search_of(head, path);
-    let place = head[10] as usize;
-    let a = over::pick_over(
-        weights, profits, nodes, edges, list, n, scratch, ask, place, s,
+fn answer_start<R: Print>(output: &mut Output<R>, asked: &Asked) {
+    let mut list = asked.list;
+    let lent = &mut list[..asked.places()];
+    let a = search::start(
+        asked.weights(),
+        asked.profits(),
+        asked.ask(),
+        asked.bound(),
+        lent,
     );
-    let answer = a.picked;
-    let verdict = answer.verdict;
-    let search = answer.search;
-    let first = answers::put_search(rt, out, at, verdict, search);
-    let after = a.list;
-    answers::put_records(rt, out, first, after, n)
+    put_search(output, a, NO_SEARCH);
+    put_records(output, &list[..asked.places()]);
+    output.put_all(&[0u64, 0, 0]);
 }
 
-// A pick over tables and a scratch list of those old contents, with its answer.
-fn answer_pick<R: Print>(
-    rt: &R,
-    out: &mut [u8; 65536],
-    at: usize,
-    head: [u64; 19],
-    weights: &[u64],
-    profits: &[u64],
-    path: &[u64; 64],
-    list: [Record; 64],
-    nodes: &mut [u64],
-    edges: &mut [u64],
-    scratch: &mut [u64],
-) -> usize {
-    fill_all(nodes, edges, scratch, head);
-    let end = picked(
-        rt, out, at, head, weights, profits, path, list, nodes, edges, scratch,
+// A pick over these tables, the last of which is its scratch list, with its answer.
+fn answer_pick<R: Print>(output: &mut Output<R>, asked: &Asked, tables: &mut Tables) {
+    tables.fill(&asked.head);
+    let before = asked.search();
+    let mut list = asked.list;
+    let a = pick::pick(
+        asked.weights(),
+        asked.profits(),
+        tables.nodes,
+        tables.edges,
+        &mut list[..asked.places()],
+        tables.records,
+        asked.ask(),
+        asked.place(),
+        before,
     );
-    put_tables(rt, out, end, nodes, edges, scratch, head)
+    put_search(output, a, before);
+    put_records(output, &list[..asked.places()]);
+    tables.put(output, &asked.head);
 }
 
-// The call that is asked, over the first words of these tables, so many as the request lends.
-fn call<R: Print>(
-    rt: &R,
-    out: &mut [u8; 65536],
-    at: usize,
-    head: [u64; 19],
-    weights: &[u64],
-    profits: &[u64],
-    path: &[u64; 64],
-    list: [Record; 64],
-    nodes: &mut [u64],
-    edges: &mut [u64],
-    scratch: &mut [u64],
-) -> usize {
-    if head[0] == 0 {
-        return answer_start(rt, out, at, head, weights, profits, list);
-    }
-    let n = at_most(head[12], nodes.len());
-    let e = at_most(head[13], edges.len());
-    let r = at_most(head[14], scratch.len());
-    answer_pick(
-        rt,
-        out,
-        at,
-        head,
-        weights,
-        profits,
-        path,
-        list,
-        &mut nodes[..n],
-        &mut edges[..e],
-        &mut scratch[..r],
-    )
-}
-
-// Answers a request, whose weights and profits stand first in these lists.
-fn answer<R: Print>(
-    rt: &R,
-    out: &mut [u8; 65536],
-    at: usize,
-    head: [u64; 19],
-    weights: &[u64],
-    profits: &[u64],
-    path: &[u64; 64],
-    list: &[u64; 4352],
-    nodes: &mut [u64],
-    edges: &mut [u64],
-    scratch: &mut [u64],
-) -> usize {
-    let w = at_most(head[1], weights.len());
-    let p = at_most(head[2], profits.len());
-    let l = answers::records_of(list);
-    let end = call(
-        rt,
-        out,
-        at,
-        head,
-        &weights[..w],
-        &profits[..p],
-        path,
-        l,
-        nodes,
-        edges,
-        scratch,
-    );
-    output::end_line(out, end);
-    end
-}
-
-// Reads a request and answers it.
-fn turn<R: std::io::Input + Print>(
-    rt: &R,
-    buf: &mut [u8; 65536],
-    out: &mut [u8; 65536],
-    nodes: &mut [u64],
-    edges: &mut [u64],
-    scratch: &mut [u64],
-    i: Input,
-    at: usize,
-) -> Stand {
-    let mut head = [0u64; 19];
-    let mut weights = [0u64; 192];
-    let mut profits = [0u64; 192];
-    let mut path = [0u64; 64];
-    let mut list = [0u64; 4352];
-    let behind = requests::read(
-        rt,
-        buf,
-        i,
-        &mut head,
-        &mut weights,
-        &mut profits,
-        &mut path,
-        &mut list,
-    );
-    if !input::is_reading(behind) {
-        return Stand {
-            input: behind,
-            at: at,
-        };
-    }
-    let end = answer(
-        rt, out, at, head, &weights, &profits, &path, &list, nodes, edges, scratch,
-    );
-    Stand {
-        input: behind,
-        at: end,
-    }
-}
-
-// Says what is wrong where the input didn't end behind a request.
-fn tell<R: Eprint>(rt: &R, i: Input) {
-    if input::is_broken(i) {
-        let _ = rt.eprintln("search_replay: this is no request");
-    }
-}
-
-// Request after request. A proved loop has to end, so it counts its turns down, from a number that no run uses up.
-fn serve<R: std::io::Input + Print + Eprint>(
-    rt: &R,
-    buf: &mut [u8; 65536],
-    out: &mut [u8; 65536],
-    nodes: &mut [u64],
-    edges: &mut [u64],
-    scratch: &mut [u64],
-) {
-    let mut i = input::start();
-    let mut at = 0;
-    let mut turns = u64::MAX;
-    while turns > 0 {
-        if !input::is_reading(i) {
-            break;
+impl Answering for Replay<'_> {
+    fn turn<R: std::io::Input + Print>(
+        &mut self,
+        input: &mut Input<R>,
+        output: &mut Output<R>,
+    ) -> Result<(), Stop> {
+        let asked = Asked::read(input)?;
+        if asked.is_start() {
+            answer_start(output, &asked);
+        } else {
+            let nodes = first_words(&mut *self.nodes, asked.head[12]);
+            let edges = first_words(&mut *self.edges, asked.head[13]);
+            let records = first_words(&mut *self.scratch, asked.head[14]);
+            let mut tables = Tables {
+                nodes,
+                edges,
+                records,
+            };
+            answer_pick(output, &asked, &mut tables);
         }
-        let s = turn(rt, buf, out, nodes, edges, scratch, i, at);
-        i = s.input;
-        at = s.at;
-        turns -= 1;
+        output.end_line();
+        Ok(())
     }
-    output::flush(rt, out, at);
-    tell(rt, i);
 }
 
-// The tables and the scratch list are the largest that a request may ask for: `requests::tables_fit`.
+// The tables and the scratch list are the largest that a request may ask for: `requests::MOST`.
 fn main(rt: HostRuntime) {
-    let mut buf = io::large_buffer();
-    let mut out = io::large_buffer();
-    let mut nodes = [0u64; 16384];
-    let mut edges = [0u64; 16384];
-    let mut scratch = [0u64; 16384];
-    serve(
-        &rt,
-        &mut buf,
-        &mut out,
-        &mut nodes,
-        &mut edges,
-        &mut scratch,
-    );
+    let mut nodes = [0; 16384];
+    let mut edges = [0; 16384];
+    let mut scratch = [0; 16384];
+    let mut program = Replay {
+        nodes: &mut nodes,
+        edges: &mut edges,
+        scratch: &mut scratch,
+    };
+    lines::serve(&rt, "search_replay", &mut program);
 }

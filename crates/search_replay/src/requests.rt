@@ -1,120 +1,105 @@
 // A request: its numbers as they are read, and what they ask. The first 19 stand in `head`, in the order of tools/search/README.md.
-use cutset::Kind;
-use lines::input::{Input, State};
-use lines::{at_most, input};
+ghost use Rattle.std.specs.Prelude.{◌≤◌};
+
+use lines::input::{Input, Stop};
+use lines::{ANY, at_most, fits, kind_of};
+use records::Record;
 use search::{Ask, Search};
+use std::array;
 
-fn kind_of(n: u64) -> Kind {
-    if n == 0 {
-        Kind::LastExactLayer
-    } else {
-        Kind::Frontier
-    }
+// There is room for lists of these lengths, and call and cutset kind have their numbers.
+const MOST: [u64; 19] = [
+    1, 192, 192, ANY, ANY, 1, ANY, ANY, ANY, ANY, ANY, 64, 16384, 16384, 16384, ANY, ANY, ANY, ANY,
+];
+
+// The numbers of a request: its weights, profits and records stand first in their lists.
+#[derive(Drop)]
+pub struct Asked {
+    pub head: [u64; 19],
+    weights: [u64; 192],
+    profits: [u64; 192],
+    path: [u8; 64],
+    pub list: [Record; 64],
 }
 
-fn byte_of(n: u64) -> u8 {
-    (n % 256) as u8
+// The 64 records of a flat list of words.
+fn records_of(words: &[u64; 4352]) -> [Record; 64] {
+    array::from_fn(|i| records::from_words(words, i))
 }
 
-// A path's numbers as bytes.
-fn path_of(numbers: &[u64; 64]) -> [u8; 64] {
-    let mut path = [0u8; 64];
-    let mut i = 0;
-    while i < 64 {
-        path[i] = byte_of(numbers[i]);
-        i += 1;
+impl Asked {
+    // The next request. At the input's end there is none; what ends before its last number is none either.
+    pub fn read<R: std::io::Input>(input: &mut Input<R>) -> Result<Asked, Stop> {
+        let mut head = [0; 19];
+        let mut weights = [0; 192];
+        let mut profits = [0; 192];
+        let mut path = [0; 64];
+        let mut list = [0; 4352];
+        input.list(&mut head, 19)?;
+        if !fits(&head, &MOST) {
+            return Err(Stop::Broken);
+        }
+        input.rest(&mut weights, head[1])?;
+        input.rest(&mut profits, head[2])?;
+        input.rest(&mut path, 64)?;
+        let places = at_most(head[11], 64);
+        input.rest(&mut list, places as u64 * 68)?;
+        Ok(Asked {
+            head,
+            weights,
+            profits,
+            path: path.map(|n| (n % 256) as u8),
+            list: records_of(&list),
+        })
     }
-    path
-}
 
-pub fn ask_of(head: [u64; 19]) -> Ask {
-    Ask {
-        page: head[3],
-        width: head[4],
-        kind: kind_of(head[5]),
+    pub fn weights(&self) -> &[u64] {
+        &self.weights[..at_most(self.head[1], 192)]
     }
-}
 
-// The search that a pick is asked of.
-pub fn search_of(head: [u64; 19], path: &[u64; 64]) -> Search {
-    let bytes = path_of(path);
-    Search {
-        best: words::number(head[6]),
-        held: head[7] == 1,
-        path: bytes,
-        opened: head[8] as usize,
-        picks: head[9],
+    pub fn profits(&self) -> &[u64] {
+        &self.profits[..at_most(self.head[2], 192)]
     }
-}
 
-// Whether there are so many words to lend, and places in the list.
-fn tables_fit(head: &[u64; 19]) -> bool {
-    if 64 < head[11] {
-        return false;
+    // Whether a start is asked, else a pick.
+    pub fn is_start(&self) -> bool {
+        self.head[0] == 0
     }
-    if 16384 < head[12] {
-        return false;
-    }
-    if 16384 < head[13] {
-        return false;
-    }
-    head[14] <= 16384
-}
 
-// Whether there is room for what is read and lent, and call and cutset kind have their numbers.
-fn fits(head: &[u64; 19]) -> bool {
-    if 1 < head[0] {
-        return false;
+    pub fn ask(&self) -> Ask {
+        Ask {
+            page: self.head[3],
+            width: self.head[4],
+            kind: kind_of(self.head[5]),
+        }
     }
-    if 192 < head[1] {
-        return false;
-    }
-    if 192 < head[2] {
-        return false;
-    }
-    if 1 < head[5] {
-        return false;
-    }
-    tables_fit(head)
-}
 
-// The path and the words of so many records, which are read last. An end before the last number is no place for it.
-fn read_lists<R: std::io::Input>(
-    rt: &R,
-    buf: &mut [u8; 65536],
-    i: Input,
-    path: &mut [u64],
-    list: &mut [u64],
-    places: u64,
-) -> Input {
-    let n = at_most(places, 64);
-    let behind = input::list(rt, buf, i, path, 64);
-    let last = input::list(rt, buf, behind, list, n as u64 * 68);
-    if !input::is_reading(last) {
-        return input::stopped(State::Broken);
+    // The bound that a start is asked with.
+    pub fn bound(&self) -> i64 {
+        words::number(self.head[6])
     }
-    last
-}
 
-// The numbers of a request. At the input's end there is none; what ends before its last number is none either.
-pub fn read<R: std::io::Input>(
-    rt: &R,
-    buf: &mut [u8; 65536],
-    i: Input,
-    head: &mut [u64; 19],
-    weights: &mut [u64],
-    profits: &mut [u64],
-    path: &mut [u64],
-    list: &mut [u64],
-) -> Input {
-    let begun = input::list(rt, buf, i, head, 19);
-    if !input::is_reading(begun) {
-        return begun;
+    // The search that a pick is asked of.
+    pub fn search(&self) -> Search {
+        let head = self.head;
+        Search {
+            best: words::number(head[6]),
+            held: head[7] == 1,
+            path: self.path,
+            opened: head[8] as usize,
+            picks: head[9],
+        }
     }
-    if !fits(head) {
-        return input::stopped(State::Broken);
+
+    // The place that is picked.
+    pub fn place(&self) -> usize {
+        self.head[10] as usize
     }
-    let behind = input::list(rt, buf, begun, weights, head[1]);
-    let second = input::list(rt, buf, behind, profits, head[2]);
-    read_lists(rt, buf, second, path, list, head[11])
+
+    // How many places of the list are lent.
+    pub fn places(&self) -> usize
+        ensures { result ≤ 64 }
+    {
+        at_most(self.head[11], 64)
+    }
 }

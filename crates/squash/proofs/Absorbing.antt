@@ -3,11 +3,10 @@ use mathlib.Core.Path.{◌≡◌, refl, sym, ap, subst, ◌∙◌}
 use mathlib.Core.Bool.{true}
 use mathlib.Core.List.Memᴰ
 use mathlib.Core.List.{List, [], ◌∷◌, Memᴰ}
-use Prim.Native.Nat.{ℕ, suc, ◌+◌, ◌-◌, ◌*◌, ◌<◌, ◌≤◌}
+use Prim.Native.Nat.{ℕ, suc, ◌+◌, ◌*◌, ◌<◌, ◌≤◌}
 use native.Mathlib.Numerals.{add-one}
 use native.Mathlib.Omega.{arith}
-use lib.ListN.{length, get_or, take, drop, length-set, length-drop, length-take, drop_of_length-le}
-use lib.Seq.{get_or-drop, get_or-take, length-take-le}
+use lib.ListN.{length, get_or, drop, length-set, drop_of_length-le}
 use Rattle.diagram.specs.Node.{Node, node_at, update, with_deleted}
 use Rattle.diagram.specs.Tables.{Diagram, with_nodes, inbound}
 use Rattle.diagram.specs.Run.{Settings, Run, going, stopped}
@@ -19,12 +18,10 @@ use Rattle.theorems.proofs.Merge.{MergeTrail, merging_merged, Ending, copy_trail
 use Rattle.theorems.proofs.Links.{WiredMerge, SameLinks, update_wired, copies_wired}
 use Rattle.branch.specs.declared.Counts.{Counts}
 use Rattle.branch.specs.declared.Rooms.{Rooms}
-use Rattle.branch.specs.declared.Step.{Step}
-use Rattle.branch.specs.declared.Step.TheVariants.{Going, Stopped}
-use Rattle.branch.specs.State.{counts_of, diagram_of, Stands, Held, Stepped}
+use Rattle.branch.specs.State.{Said, Going, Stopped, counts_of, diagram_of, Stands, Held, Stepped}
 use Rattle.squash.specs.Places.{RowChanged}
 use Rattle.squash.specs.Merging.{Mergeable, Merges, Sits, EdgesCopied, AllMerged}
-use Rattle.squash.proofs.Changing.{place_mem, rows_split}
+use Rattle.squash.proofs.Changing.{place_mem, rows_next}
 use Rattle.squash.proofs.Tables.{nodes_in}
 
 -- ---- a row changed in ways that leave its links alone
@@ -106,7 +103,7 @@ pub record Went (s : Settings) (old_n old_e : List ℕ) (start : ℕ) (k : Count
   pub is_going_lem : run ≡ going after
   pub merges : Merges s after old_n old_e start k rooms m rest ns es
 
-went : (s : Settings) (d : Diagram) (old_n old_e : List ℕ) (start : ℕ) (k₀ k : Counts) (rooms : Rooms) (m : ℕ) (rest ns₀ es₀ ns es : List ℕ) (step : Step) (g : Merges s d old_n old_e start k₀ rooms m rest ns₀ es₀) (run : Run)
+went : (s : Settings) (d : Diagram) (old_n old_e : List ℕ) (start : ℕ) (k₀ k : Counts) (rooms : Rooms) (m : ℕ) (rest ns₀ es₀ ns es : List ℕ) (step : Said) (g : Merges s d old_n old_e start k₀ rooms m rest ns₀ es₀) (run : Run)
     → Holds (WiredMerge g.mergeable.depth m rest) run → Holds (MergeTrail m rest d) run → Stepped run old_n old_e step ns es → step ≡ Going k → Went s old_n old_e start k rooms m rest ns es run
 went s d old_n old_e start k₀ k rooms m rest ns₀ es₀ ns es step g (stopped n e) w t st q =
     let p = st.step_is in
@@ -140,7 +137,7 @@ went s d old_n old_e start k₀ k rooms m rest ns₀ es₀ ns es step g (going e
       };
     }
 
-copied_went : (s : Settings) (d : Diagram) (old_n old_e : List ℕ) (start : ℕ) (k₀ k : Counts) (rooms : Rooms) (m : ℕ) (rest ns₀ es₀ ns es : List ℕ) (r : ℕ) (step : Step) → Memᴰ r rest → Merges s d old_n old_e start k₀ rooms m rest ns₀ es₀ → Stepped (copy_edges s m (inbound d.edges r) d) old_n old_e step ns es → step ≡ Going k → Went s old_n old_e start k rooms m rest ns es (copy_edges s m (inbound d.edges r) d)
+copied_went : (s : Settings) (d : Diagram) (old_n old_e : List ℕ) (start : ℕ) (k₀ k : Counts) (rooms : Rooms) (m : ℕ) (rest ns₀ es₀ ns es : List ℕ) (r : ℕ) (step : Said) → Memᴰ r rest → Merges s d old_n old_e start k₀ rooms m rest ns₀ es₀ → Stepped (copy_edges s m (inbound d.edges r) d) old_n old_e step ns es → step ≡ Going k → Went s old_n old_e start k rooms m rest ns es (copy_edges s m (inbound d.edges r) d)
 copied_went s d old_n old_e start k₀ k rooms m rest ns₀ es₀ ns es r step i g st q =
     let a = g.mergeable in
     went s d old_n old_e start k₀ k rooms m rest ns₀ es₀ ns es step g (copy_edges s m (inbound d.edges r) d)
@@ -148,7 +145,7 @@ copied_went s d old_n old_e start k₀ k rooms m rest ns₀ es₀ ns es r step i
     (copy_trail s m rest (inbound d.edges r) d a.merged_above a.merged_in (ends_in rest r d i)) st q
 
 -- a run that stops
-stops_at : (run : Run) (old_n old_e : List ℕ) (step : Step) (ns es : List ℕ) (n : ℕ) (k : Counts) → Stepped run old_n old_e step ns es → step ≡ Stopped n k → run ≡ stopped n (diagram_of run)
+stops_at : (run : Run) (old_n old_e : List ℕ) (step : Said) (ns es : List ℕ) (n : ℕ) (k : Counts) → Stepped run old_n old_e step ns es → step ≡ Stopped n k → run ≡ stopped n (diagram_of run)
 stops_at (going e) old_n old_e step ns es n k st q =
     let p = st.step_is in
     let y : ◌≡◌ {A = ℕ} 0 1 = cc in
@@ -174,92 +171,77 @@ stopped_absorbing s m r rs d n e q = rw q
 -- ---- the loop
 
 -- the tables after the turns so far, and the rows that are left
-pub record Absorbed (s : Settings) (d : Diagram) (old_n old_e : List ℕ) (start : ℕ) (rooms : Rooms) (m from : ℕ) (rows : List ℕ) (k : Counts) (i : ℕ) (ns es : List ℕ) : Type 0 where
+pub record Absorbed (s : Settings) (d : Diagram) (old_n old_e : List ℕ) (start : ℕ) (rooms : Rooms) (m : ℕ) (rest : List ℕ) (k : Counts) (i : ℕ) (ns es : List ℕ) : Type 0 where
   pub now : Diagram
-  pub merges : Merges s now old_n old_e start k rooms m (drop from rows) ns es
-  pub left : merge_all s m (drop i rows) now ≡ merge_all s m (drop from rows) d
+  pub merges : Merges s now old_n old_e start k rooms m rest ns es
+  pub left : merge_all s m (drop i rest) now ≡ merge_all s m rest d
 
-pub record MergeTurn (start : ℕ) (k₀ : Counts) (rooms : Rooms) (m from count : ℕ) (list ns₀ es₀ : List ℕ) (k : Counts) (i : ℕ) (ns es : List ℕ) : Type 0 where
-  pub so_far : (s : Settings) (d : Diagram) (old_n old_e : List ℕ) → Merges s d old_n old_e start k₀ rooms m (drop from (take count list)) ns₀ es₀ → Absorbed s d old_n old_e start rooms m from (take count list) k i ns es
+pub record MergeTurn (start : ℕ) (k₀ : Counts) (rooms : Rooms) (m : ℕ) (rest ns₀ es₀ : List ℕ) (k : Counts) (i : ℕ) (ns es : List ℕ) : Type 0 where
+  pub so_far : (s : Settings) (d : Diagram) (old_n old_e : List ℕ) → Merges s d old_n old_e start k₀ rooms m rest ns₀ es₀ → Absorbed s d old_n old_e start rooms m rest k i ns es
 
-pub mem_from : (list : List ℕ) (from count i r : ℕ) → count ≤ length list → from ≤ i → i < count → r ≡ get_or list i 0 → Memᴰ r (drop from (take count list))
-mem_from list from count i r l h b e =
-    let n : length (take count list) ≡ count = length-take-le count list l in
-    let z : from + (i - from) ≡ i = omega arith in
-    let j : i - from < length (drop from (take count list)) = simp length-drop (omega arith) in
-    let q : get_or (drop from (take count list)) (i - from) 0 ≡ r = get_or-drop from (take count list) (i - from) 0 ∙ ap (λ (x : ℕ). get_or (take count list) x 0) z ∙ get_or-take count list i 0 b ∙ sym e in
-    rw q at (place_mem (drop from (take count list)) (i - from) j)
-
-module _ (start : ℕ) (k₀ : Counts) (rooms : Rooms) (m from count : ℕ) (list ns₀ es₀ : List ℕ) where
-  pub merge_start : MergeTurn start k₀ rooms m from count list ns₀ es₀ k₀ from ns₀ es₀
-  merge_start = record { so_far = λ s d old_n old_e g. record { now = d; merges = g; left = refl } }
-
-  module _ (k : Counts) (i : ℕ) (ns es : List ℕ) (turn : MergeTurn start k₀ rooms m from count list ns₀ es₀ k i ns es) where
-    pub merge_done : count ≤ i → AllMerged start k₀ rooms m from count list ns₀ es₀ (Going k) ns es
+module _ (start : ℕ) (k₀ : Counts) (rooms : Rooms) (m : ℕ) (rest ns₀ es₀ : List ℕ) where
+  module _ (k : Counts) (i : ℕ) (ns es : List ℕ) (turn : MergeTurn start k₀ rooms m rest ns₀ es₀ k i ns es) where
+    pub merge_done : length rest ≤ i → AllMerged start k₀ rooms m rest ns₀ es₀ (Going k) ns es
     unfolding merge_all
     merge_done h =
         record {
           does = λ s d old_n old_e g.
               let a = turn.so_far s d old_n old_e g in
-              let n : length (take count list) ≤ i = omega (arith, length-take count list) in
-              let e : going a.now ≡ merge_all s m (drop from (take count list)) d = ap (λ (l : List ℕ). merge_all s m l a.now) (sym (drop_of_length-le (take count list) n)) ∙ a.left in
+              let e : going a.now ≡ merge_all s m rest d = ap (λ (l : List ℕ). merge_all s m l a.now) (sym (drop_of_length-le rest h)) ∙ a.left in
               subst (λ (run : Run). Stepped run old_n old_e (Going k) ns es) e (record { step_is = ap Going a.merges.stands.counts_are; held = a.merges.held });
         }
 
-    module _ (l : count ≤ length list) (f : from ≤ i) (b : i < count) (r : ℕ) (rq : r ≡ get_or list i 0) where
-      mem : Memᴰ r (drop from (take count list))
-      mem = mem_from list from count i r l f b rq
+    module _ (r : ℕ) (h : i < length rest) (rq : r ≡ get_or rest i 0) where
+      mem : Memᴰ r rest
+      mem = rw rq (place_mem rest i h)
 
-      pub merge_reads : Sits start k₀ rooms m (drop from (take count list)) ns₀ es₀ → r * node_words + node_words ≤ length ns
+      pub merge_reads : Sits start k₀ rooms m rest ns₀ es₀ → r * node_words + node_words ≤ length ns
       merge_reads sit =
           let a = turn.so_far sit.settings sit.diagram sit.old_n sit.old_e sit.merges in
           omega (arith, (a.merges.mergeable.wired.rest_deps r mem).0, nodes_in a.now sit.old_n sit.old_e ns es a.merges.held)
 
       module _ (ns₁ : List ℕ) (w : RowChanged (with_deleted true) ns r ns₁) where
         -- the row is flagged
-        flags : (s : Settings) (d : Diagram) (old_n old_e : List ℕ) (g : Merges s d old_n old_e start k₀ rooms m (drop from (take count list)) ns₀ es₀) → Merges s (flagged (turn.so_far s d old_n old_e g).now r) old_n old_e start k rooms m (drop from (take count list)) ns₁ es
+        flags : (s : Settings) (d : Diagram) (old_n old_e : List ℕ) (g : Merges s d old_n old_e start k₀ rooms m rest ns₀ es₀) → Merges s (flagged (turn.so_far s d old_n old_e g).now r) old_n old_e start k rooms m rest ns₁ es
         flags s d old_n old_e g =
             let a = turn.so_far s d old_n old_e g in
-            changed_merges (with_deleted true) deleted_links s a.now old_n old_e start k rooms m (drop from (take count list)) ns es r ns₁ (a.merges.mergeable.wired.rest_deps r mem).0 w a.merges
+            changed_merges (with_deleted true) deleted_links s a.now old_n old_e start k rooms m rest ns es r ns₁ (a.merges.mergeable.wired.rest_deps r mem).0 w a.merges
 
-        pub merge_copies : Sits start k₀ rooms m (drop from (take count list)) ns₀ es₀ → Sits start k rooms m (r ∷ []) ns₁ es
+        pub merge_copies : Sits start k₀ rooms m rest ns₀ es₀ → Sits start k rooms m (r ∷ []) ns₁ es
         merge_copies sit =
             record {
               settings = sit.settings;
               diagram = flagged (turn.so_far sit.settings sit.diagram sit.old_n sit.old_e sit.merges).now r;
               old_n = sit.old_n;
               old_e = sit.old_e;
-              merges = one_merges _ _ _ _ _ _ _ _ (drop from (take count list)) _ _ r mem (flags sit.settings sit.diagram sit.old_n sit.old_e sit.merges);
+              merges = one_merges _ _ _ _ _ _ _ _ rest _ _ r mem (flags sit.settings sit.diagram sit.old_n sit.old_e sit.merges);
             }
 
-        module _ (step : Step) (ns' es' : List ℕ) (did : EdgesCopied start k rooms m r ns₁ es step ns' es') where
-          module _ (s : Settings) (d : Diagram) (old_n old_e : List ℕ) (g : Merges s d old_n old_e start k₀ rooms m (drop from (take count list)) ns₀ es₀) where
+        module _ (step : Said) (ns' es' : List ℕ) (did : EdgesCopied start k rooms m r ns₁ es step ns' es') where
+          module _ (s : Settings) (d : Diagram) (old_n old_e : List ℕ) (g : Merges s d old_n old_e start k₀ rooms m rest ns₀ es₀) where
             copied : Stepped (copy_edges s m (inbound (flagged (turn.so_far s d old_n old_e g).now r).edges r) (flagged (turn.so_far s d old_n old_e g).now r)) old_n old_e step ns' es'
-            copied = did.does s (flagged (turn.so_far s d old_n old_e g).now r) old_n old_e (one_merges _ _ _ _ _ _ _ _ (drop from (take count list)) _ _ r mem (flags s d old_n old_e g))
+            copied = did.does s (flagged (turn.so_far s d old_n old_e g).now r) old_n old_e (one_merges _ _ _ _ _ _ _ _ rest _ _ r mem (flags s d old_n old_e g))
 
-            next_rows : drop i (take count list) ≡ r ∷ drop (suc i) (take count list)
-            next_rows = rw rq (rows_split list count i l b)
-
-            absorbed_one : (k' : Counts) → step ≡ Going k' → Absorbed s d old_n old_e start rooms m from (take count list) k' (i + 1) ns' es'
+            absorbed_one : (k' : Counts) → step ≡ Going k' → Absorbed s d old_n old_e start rooms m rest k' (i + 1) ns' es'
             absorbed_one k' q =
                 let a = turn.so_far s d old_n old_e g in
-                let x = copied_went s (flagged a.now r) old_n old_e start k k' rooms m (drop from (take count list)) ns₁ es ns' es' r step mem (flags s d old_n old_e g) copied q in
+                let x = copied_went s (flagged a.now r) old_n old_e start k k' rooms m rest ns₁ es ns' es' r step mem (flags s d old_n old_e g) copied q in
                 record {
                   now = x.after;
                   merges = x.merges;
-                  left = rw add-one (sym (one_absorbed s m r (drop (suc i) (take count list)) a.now x.after x.is_going_lem) ∙ ap (λ (l : List ℕ). merge_all s m l a.now) (sym next_rows) ∙ a.left);
+                  left = rw add-one (sym (one_absorbed s m r (drop (suc i) rest) a.now x.after x.is_going_lem) ∙ ap (λ (l : List ℕ). merge_all s m l a.now) (sym (rows_next rest i r h rq)) ∙ a.left);
                 }
 
-            stopped_here : (n : ℕ) (k' : Counts) → step ≡ Stopped n k' → Stepped (merge_all s m (drop from (take count list)) d) old_n old_e step ns' es'
+            stopped_here : (n : ℕ) (k' : Counts) → step ≡ Stopped n k' → Stepped (merge_all s m rest d) old_n old_e step ns' es'
             stopped_here n k' q =
                 let a = turn.so_far s d old_n old_e g in
                 let c = copied in
                 let y = stops_at _ old_n old_e step ns' es' n k' c q in
-                let u : copy_edges s m (inbound (flagged a.now r).edges r) (flagged a.now r) ≡ merge_all s m (drop from (take count list)) d = y ∙ sym (stopped_absorbing s m r (drop (suc i) (take count list)) a.now n _ y) ∙ ap (λ (l : List ℕ). merge_all s m l a.now) (sym next_rows) ∙ a.left in
+                let u : copy_edges s m (inbound (flagged a.now r).edges r) (flagged a.now r) ≡ merge_all s m rest d = y ∙ sym (stopped_absorbing s m r (drop (suc i) rest) a.now n _ y) ∙ ap (λ (l : List ℕ). merge_all s m l a.now) (sym (rows_next rest i r h rq)) ∙ a.left in
                 subst (λ (run : Run). Stepped run old_n old_e step ns' es') u c
 
-          pub merge_turn : (k' : Counts) → step ≡ Going k' → MergeTurn start k₀ rooms m from count list ns₀ es₀ k' (i + 1) ns' es'
+          pub merge_turn : (k' : Counts) → step ≡ Going k' → MergeTurn start k₀ rooms m rest ns₀ es₀ k' (i + 1) ns' es'
           merge_turn k' q = record { so_far = λ s d old_n old_e g. absorbed_one s d old_n old_e g k' q }
 
-          pub merge_stop : (n : ℕ) (k' : Counts) → step ≡ Stopped n k' → AllMerged start k₀ rooms m from count list ns₀ es₀ step ns' es'
+          pub merge_stop : (n : ℕ) (k' : Counts) → step ≡ Stopped n k' → AllMerged start k₀ rooms m rest ns₀ es₀ step ns' es'
           merge_stop n k' q = record { does = λ s d old_n old_e g. stopped_here s d old_n old_e g n k' q }

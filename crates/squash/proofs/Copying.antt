@@ -17,12 +17,10 @@ use Rattle.theorems.proofs.Links.{newest_below, newest_low, NewestIs, newest_fou
 use Rattle.rows.specs.Access.{NodeRead, EdgeRead}
 use Rattle.branch.specs.declared.Counts.{Counts}
 use Rattle.branch.specs.declared.Rooms.{Rooms}
-use Rattle.branch.specs.declared.Step.{Step}
-use Rattle.branch.specs.declared.Step.TheVariants.{Going, Stopped}
 use Rattle.branch.specs.declared.Branch.{Branch}
-use Rattle.branch.specs.State.{counts_of, Stands, Held, Stepped, Ready, Appended}
+use Rattle.branch.specs.State.{Said, Going, Stopped, counts_of, Stands, Held, Stepped, Appended}
 use Rattle.squash.specs.Merging.{Mergeable, Merges, Sits, EdgesCopied}
-use Rattle.squash.proofs.Tables.{edges_in, nodes_in, ready_of}
+use Rattle.squash.proofs.Tables.{edges_in, nodes_in}
 
 -- ---- one copy
 
@@ -108,30 +106,30 @@ module _ (start : ℕ) (k₀ : Counts) (rooms : Rooms) (m r : ℕ) (ns₀ es₀ 
 
   module _ (k : Counts) (link : ℕ) (ns es : List ℕ) (turn : CopyTurn start k₀ rooms m r ns₀ es₀ k link ns es) where
     -- the edge of this turn
-    module _ (s : Settings) (d : Diagram) (old_n old_e : List ℕ) (g : Merges s d old_n old_e start k₀ rooms m (r ∷ []) ns₀ es₀) (z : 0 < link) where
-      this : NewestIs (turn.so_far s d old_n old_e g).below d.edges r (link - 1)
+    module _ (s : Settings) (d : Diagram) (old_n old_e : List ℕ) (g : Merges s d old_n old_e start k₀ rooms m (r ∷ []) ns₀ es₀) (edge : ℕ) (z : link ≡ edge + 1) where
+      this : NewestIs (turn.so_far s d old_n old_e g).below d.edges r edge
       this =
           let c = turn.so_far s d old_n old_e g in
-          let y : newest_below c.below d.edges r ≡ suc (link - 1) = omega (arith, c.link_is) in
-          newest_found c.below d.edges r (link - 1) y
+          let y : newest_below c.below d.edges r ≡ suc edge = omega (arith, c.link_is) in
+          newest_found c.below d.edges r edge y
 
-      this_in : link - 1 < length d.edges
+      this_in : edge < length d.edges
       this_in = let c = turn.so_far s d old_n old_e g in omega (arith, this.below, c.low)
 
-      this_is : (x : Edge) → EdgeRead es (link - 1) x → (x ≡ edge_at (turn.so_far s d old_n old_e g).now.edges (link - 1)) × (x ≡ edge_at d.edges (link - 1))
+      this_is : (x : Edge) → EdgeRead es edge x → (x ≡ edge_at (turn.so_far s d old_n old_e g).now.edges edge) × (x ≡ edge_at d.edges edge)
       this_is x read =
           let c = turn.so_far s d old_n old_e g in
           let e = read.is_row c.now.edges old_e c.held.edges_are (omega (arith, this_in, c.more)) in
-          (e, e ∙ c.edges_are (link - 1) this_in)
+          (e, e ∙ c.edges_are edge this_in)
 
-      next_is : (x : Edge) → EdgeRead es (link - 1) x → x.next ≡ newest_below (link - 1) d.edges r
+      next_is : (x : Edge) → EdgeRead es edge x → x.next ≡ newest_below edge d.edges r
       next_is x read =
-          ap (λ (y : Edge). y.next) (this_is x read).1 ∙ g.mergeable.wired.wired.link (link - 1) this_in ∙ ap (λ (y : ℕ). newest_below (link - 1) d.edges y) this.ends
+          ap (λ (y : Edge). y.next) (this_is x read).1 ∙ g.mergeable.wired.wired.link edge this_in ∙ ap (λ (y : ℕ). newest_below edge d.edges y) this.ends
 
-      from_in : (x : Edge) → EdgeRead es (link - 1) x → x.from < start
-      from_in x read = rw ((this_is x read).1, g.stands.first_is) (g.mergeable.wired.wired.arrows (link - 1) this_in).from_in
+      from_in : (x : Edge) → EdgeRead es edge x → x.from < start
+      from_in x read = rw ((this_is x read).1, g.stands.first_is) (g.mergeable.wired.wired.arrows edge this_in).from_in
 
-    pub copy_done : link ≤ 0 → EdgesCopied start k₀ rooms m r ns₀ es₀ (Going k) ns es
+    pub copy_done : link ≡ 0 → EdgesCopied start k₀ rooms m r ns₀ es₀ (Going k) ns es
     unfolding copy_edges
     copy_done z =
         record {
@@ -142,33 +140,31 @@ module _ (start : ℕ) (k₀ : Counts) (rooms : Rooms) (m r : ℕ) (ns₀ es₀ 
               subst (λ (run : Run). Stepped run old_n old_e (Going k) ns es) e (record { step_is = ap Going c.stands.counts_are; held = c.held });
         }
 
-    module _ (sit : Sits start k₀ rooms m (r ∷ []) ns₀ es₀) (z : 0 < link) where
-      pub copy_reads_edge : (link - 1) * edge_words + edge_words ≤ length es
+    module _ (sit : Sits start k₀ rooms m (r ∷ []) ns₀ es₀) (edge : ℕ) (z : link ≡ edge + 1) where
+      pub copy_reads_edge : edge * edge_words + edge_words ≤ length es
       copy_reads_edge =
           let c = turn.so_far sit.settings sit.diagram sit.old_n sit.old_e sit.merges in
-          omega (arith, this_in sit.settings sit.diagram sit.old_n sit.old_e sit.merges z, c.more, edges_in c.now sit.old_n sit.old_e ns es c.held)
+          omega (arith, this_in sit.settings sit.diagram sit.old_n sit.old_e sit.merges edge z, c.more, edges_in c.now sit.old_n sit.old_e ns es c.held)
 
-      pub copy_appends : (x : Edge) → EdgeRead es (link - 1) x → Ready start k rooms ns es × ((x.from < start) × (start + (m - start) < k.nodes))
+      pub copy_appends : (x : Edge) → EdgeRead es edge x → (x.from < start) × (start + (m - start) < k.nodes)
       copy_appends x read =
           let g = sit.merges in
           let c = turn.so_far sit.settings sit.diagram sit.old_n sit.old_e g in
-          let n : k.nodes ≡ length c.now.nodes = ap (λ (y : Counts). y.nodes) c.stands.counts_are in (
-            ready_of c.now sit.old_n sit.old_e ns es c.held sit.settings start k rooms c.stands,
-            (from_in sit.settings sit.diagram sit.old_n sit.old_e g z x read, omega (arith, c.long, g.stands.first_is, g.mergeable.merged_above, g.mergeable.merged_in)),
-          )
+          let n : k.nodes ≡ length c.now.nodes = ap (λ (y : Counts). y.nodes) c.stands.counts_are in
+          (from_in sit.settings sit.diagram sit.old_n sit.old_e g edge z x read, omega (arith, c.long, g.stands.first_is, g.mergeable.merged_above, g.mergeable.merged_in))
 
-      pub copy_less : (x : Edge) → EdgeRead es (link - 1) x → x.next < link
+      pub copy_less : (x : Edge) → EdgeRead es edge x → x.next < link
       copy_less x read =
-          omega (arith, next_is sit.settings sit.diagram sit.old_n sit.old_e sit.merges z x read, newest_low (link - 1) sit.diagram.edges r)
+          omega (arith, next_is sit.settings sit.diagram sit.old_n sit.old_e sit.merges edge z x read, newest_low edge sit.diagram.edges r)
 
-    module _ (z : 0 < link) (x : Edge) (read : EdgeRead es (link - 1) x) (b : Branch) (dq : b.decision ≡ x.decision) (cq : b.cost ≡ x.cost) (step : Step) (ns' es' : List ℕ) (did : Appended start k rooms x.from (m - start) b ns es step ns' es') where
+    module _ (edge : ℕ) (z : link ≡ edge + 1) (x : Edge) (read : EdgeRead es edge x) (b : Branch) (dq : b.decision ≡ x.decision) (cq : b.cost ≡ x.cost) (step : Said) (ns' es' : List ℕ) (did : Appended start k rooms x.from (m - start) b ns es step ns' es') where
       -- the copy of this turn, in the definition's words
       module _ (s : Settings) (d : Diagram) (old_n old_e : List ℕ) (g : Merges s d old_n old_e start k₀ rooms m (r ∷ []) ns₀ es₀) where
-        stepped : Stepped (add_edge s (edge_at (turn.so_far s d old_n old_e g).now.edges (link - 1)).from m (edge_at (turn.so_far s d old_n old_e g).now.edges (link - 1)).decision (edge_at (turn.so_far s d old_n old_e g).now.edges (link - 1)).cost (turn.so_far s d old_n old_e g).now) old_n old_e step ns' es'
+        stepped : Stepped (add_edge s (edge_at (turn.so_far s d old_n old_e g).now.edges edge).from m (edge_at (turn.so_far s d old_n old_e g).now.edges edge).decision (edge_at (turn.so_far s d old_n old_e g).now.edges edge).cost (turn.so_far s d old_n old_e g).now) old_n old_e step ns' es'
         stepped =
             let c = turn.so_far s d old_n old_e g in
             let y : start + (m - start) ≡ m = omega (arith, g.stands.first_is, g.mergeable.merged_above) in
-            rw (y, dq, cq, (this_is s d old_n old_e g z x read).0) at (did.does s c.now old_n old_e c.stands c.held)
+            rw (y, dq, cq, (this_is s d old_n old_e g edge z x read).0) at (did.does s c.now old_n old_e c.stands c.held)
 
         copied_one : (k' : Counts) → step ≡ Going k' → (t : Bool) → ltb (length (turn.so_far s d old_n old_e g).now.edges) s.edge_room ≡ t → Copying s d old_n old_e start rooms m r k' x.next ns' es'
         copied_one k' q false h =
@@ -178,8 +174,8 @@ module _ (start : ℕ) (k₀ : Counts) (rooms : Rooms) (m r : ℕ) (ns₀ es₀ 
         copied_one k' q true h =
             let c = turn.so_far s d old_n old_e g in
             let st = subst (λ (run : Run). Stepped run old_n old_e step ns' es') (added s _ m _ _ c.now h) stepped in
-            let p = push_pushed (edge_at c.now.edges (link - 1)).from m (edge_at c.now.edges (link - 1)).decision (edge_at c.now.edges (link - 1)).cost c.now in
-            let P = push_edge (edge_at c.now.edges (link - 1)).from m (edge_at c.now.edges (link - 1)).decision (edge_at c.now.edges (link - 1)).cost c.now in
+            let p = push_pushed (edge_at c.now.edges edge).from m (edge_at c.now.edges edge).decision (edge_at c.now.edges edge).cost c.now in
+            let P = push_edge (edge_at c.now.edges edge).from m (edge_at c.now.edges edge).decision (edge_at c.now.edges edge).cost c.now in
             let e = st.step_is in
             let kq : k' ≡ counts_of P = cc in
             record {
@@ -197,10 +193,10 @@ module _ (start : ℕ) (k₀ : Counts) (rooms : Rooms) (m r : ℕ) (ns₀ es₀ 
               long = p.long ∙ c.long;
               more = omega (arith, c.more, p.more);
               edges_are = λ y l. p.edges_are y (omega (arith, c.more)) ∙ c.edges_are y l;
-              below = link - 1;
-              low = omega (arith, this_in s d old_n old_e g z);
-              link_is = next_is s d old_n old_e g z x read;
-              left = sym (one_copied s m (link - 1) (inbound_below (link - 1) d.edges r) c.now h) ∙ ap (λ (l : List ℕ). copy_edges s m l c.now) (sym (this s d old_n old_e g z).splits) ∙ c.left;
+              below = edge;
+              low = omega (arith, this_in s d old_n old_e g edge z);
+              link_is = next_is s d old_n old_e g edge z x read;
+              left = sym (one_copied s m edge (inbound_below edge d.edges r) c.now h) ∙ ap (λ (l : List ℕ). copy_edges s m l c.now) (sym (this s d old_n old_e g edge z).splits) ∙ c.left;
             }
 
         stopped_here : (n : ℕ) (k' : Counts) → step ≡ Stopped n k' → (t : Bool) → ltb (length (turn.so_far s d old_n old_e g).now.edges) s.edge_room ≡ t → Stepped (copy_edges s m (inbound d.edges r) d) old_n old_e step ns' es'
@@ -210,7 +206,7 @@ module _ (start : ℕ) (k₀ : Counts) (rooms : Rooms) (m r : ℕ) (ns₀ es₀ 
             absurd (omega arith)
         stopped_here n k' q false h =
             let c = turn.so_far s d old_n old_e g in
-            let e : stopped 12 c.now ≡ copy_edges s m (inbound d.edges r) d = sym (none_copied s m (link - 1) (inbound_below (link - 1) d.edges r) c.now h) ∙ ap (λ (l : List ℕ). copy_edges s m l c.now) (sym (this s d old_n old_e g z).splits) ∙ c.left in
+            let e : stopped 12 c.now ≡ copy_edges s m (inbound d.edges r) d = sym (none_copied s m edge (inbound_below edge d.edges r) c.now h) ∙ ap (λ (l : List ℕ). copy_edges s m l c.now) (sym (this s d old_n old_e g edge z).splits) ∙ c.left in
             subst (λ (run : Run). Stepped run old_n old_e step ns' es') e (subst (λ (run : Run). Stepped run old_n old_e step ns' es') (not_added s _ m _ _ c.now h) stepped)
 
       pub copy_turn : (k' : Counts) → step ≡ Going k' → CopyTurn start k₀ rooms m r ns₀ es₀ k' x.next ns' es'
@@ -218,7 +214,3 @@ module _ (start : ℕ) (k₀ : Counts) (rooms : Rooms) (m r : ℕ) (ns₀ es₀ 
 
       pub copy_stop : (n : ℕ) (k' : Counts) → step ≡ Stopped n k' → EdgesCopied start k₀ rooms m r ns₀ es₀ step ns' es'
       copy_stop n k' q = record { does = λ s d old_n old_e g. stopped_here s d old_n old_e g n k' q _ refl }
-
--- an edge read at the place that a link names
-pub at_link : {es : List ℕ} {e l : ℕ} {x : Edge} → e ≡ l → EdgeRead es e x → EdgeRead es l x
-at_link {es} {e} {l} {x} q read = subst (λ (i : ℕ). EdgeRead es i x) q read

@@ -3,12 +3,11 @@ use mathlib.Core.Path.{◌≡◌, refl, sym, ap, ◌∙◌}
 use mathlib.Core.Bool.{true}
 use mathlib.Core.List.Memᴰ
 use mathlib.Core.List.{List, [], ◌∷◌, ◌++◌, Memᴰ}
-use Prim.Native.Nat.{ℕ, zero, suc, ◌<◌, ◌≤◌}
-use native.Mathlib.Nat.{le_of_suc-le-suc, not-suc-le-zero}
+use Prim.Native.Nat.{ℕ, zero, suc, ◌<◌}
 use native.Mathlib.Omega.{arith}
 use lib.Dec.{ltb}
 use lib.ListN.{length, get_or, set, take, drop, length-set}
-use lib.Seq.{take-take, take-suc, take-suc-set, drop-set-lt}
+use lib.Seq.{drop-cons, take-suc, take-suc-set, drop-set-lt}
 use Rattle.knapsack.proofs.Cases.{by_test}
 use Rattle.diagram.specs.Node.{edge_at, update, with_deleted}
 use Rattle.diagram.specs.Tables.{Diagram, with_nodes, inbound}
@@ -17,49 +16,39 @@ use Rattle.diagram.specs.Rule4.{push_edge, add_edge}
 use Rattle.diagram.specs.Rule6.{squashed, copy_edges, merge_all}
 use Rattle.branch.specs.declared.Counts.{Counts}
 use Rattle.branch.specs.declared.Rooms.{Rooms}
-use Rattle.branch.specs.declared.Step.{Step}
-use Rattle.branch.specs.declared.Step.TheVariants.{Stopped}
 use Rattle.branch.specs.State as State
-use Rattle.branch.specs.State.{Stepped}
+use Rattle.branch.specs.State.{Said, Stopped, Stepped}
 use Rattle.squash.specs.Places.{Placed}
 use Rattle.squash.specs.Squashing.{Done, Squashable}
-use Rattle.squash.proofs.Changing.{rows_split}
 use Rattle.squash.proofs.Tables.{nodes_in}
 
 -- ---- the list
 
-pub take_mem : (a b : ℕ) (l : List ℕ) (r : ℕ) → a ≤ b → Memᴰ r (take a l) → Memᴰ r (take b l)
-take_mem zero b l r h i = absurd (Memᴰ.not-nil i)
-take_mem (suc a) zero l r h i = absurd (not-suc-le-zero h)
-take_mem (suc a) (suc b) [] r h i = i
-take_mem (suc a) (suc b) (x ∷ l) r h (Memᴰ.head e) = Memᴰ.head e
-take_mem (suc a) (suc b) (x ∷ l) r h (Memᴰ.tail i) = Memᴰ.tail (take_mem a b l r (le_of_suc-le-suc h) i)
+pub front_mem : (a : ℕ) (l : List ℕ) (r : ℕ) → Memᴰ r (take a l) → Memᴰ r l
+front_mem zero l r i = absurd (Memᴰ.not-nil i)
+front_mem (suc a) [] r i = i
+front_mem (suc a) (x ∷ l) r (Memᴰ.head e) = Memᴰ.head e
+front_mem (suc a) (x ∷ l) r (Memᴰ.tail i) = Memᴰ.tail (front_mem a l r i)
 
 pub drop_mem : (a : ℕ) (l : List ℕ) (r : ℕ) → Memᴰ r (drop a l) → Memᴰ r l
 drop_mem zero l r i = i
 drop_mem (suc a) [] r i = i
 drop_mem (suc a) (x ∷ l) r i = Memᴰ.tail (drop_mem a l r i)
 
-module _ (list : List ℕ) (keep count : ℕ) (l : count ≤ length list) (h : keep < count) where
-  pub first_rest : get_or (drop keep (take count list)) 0 0 ≡ get_or list keep 0
-  first_rest = ap (λ (rs : List ℕ). get_or rs 0 0) (rows_split list count keep l h)
+module _ (rows : List ℕ) (keep : ℕ) (h : keep < length rows) where
+  pub first_rest : get_or (drop keep rows) 0 0 ≡ get_or rows keep 0
+  first_rest = ap (λ (rs : List ℕ). get_or rs 0 0) (drop-cons rows keep 0 h)
 
   -- the list as it stands keeps the first row behind the kept ones
-  pub rows_stay : take keep (take count list) ++ (get_or (drop keep (take count list)) 0 0 ∷ []) ≡ take (suc keep) list
-  rows_stay =
-      let b : keep ≤ count = omega arith in
-      let i : keep < length list = omega arith in
-      rw (first_rest, take-take keep count list b) (sym (take-suc list keep 0 i))
+  pub rows_stay : take keep rows ++ (get_or (drop keep rows) 0 0 ∷ []) ≡ take (suc keep) rows
+  rows_stay = rw first_rest (sym (take-suc rows keep 0 h))
 
   -- and a row number written there takes its place
-  pub rows_set : (n : ℕ) → take keep (take count list) ++ (n ∷ []) ≡ take (suc keep) (set list keep n)
-  rows_set n =
-      let b : keep ≤ count = omega arith in
-      let i : keep < length list = omega arith in
-      rw (take-take keep count list b) (sym (take-suc-set list keep n i))
+  pub rows_set : (n : ℕ) → take keep rows ++ (n ∷ []) ≡ take (suc keep) (set rows keep n)
+  rows_set n = sym (take-suc-set rows keep n h)
 
-  pub beyond_set : (n : ℕ) → drop (suc keep) (set list keep n) ≡ drop (suc keep) list
-  beyond_set n = let b : keep < suc keep = omega arith in drop-set-lt (suc keep) list keep n b
+  pub beyond_set : (n : ℕ) → drop (suc keep) (set rows keep n) ≡ drop (suc keep) rows
+  beyond_set n = let b : keep < suc keep = omega arith in drop-set-lt (suc keep) rows keep n b
 
 -- ---- the rows that a merge leaves are as many as it found
 
@@ -87,7 +76,7 @@ merge_long s m (r ∷ rs) d =
 
 -- ---- a merge that stops
 
-pub squash_stops : (run : Run) (f : Diagram → Diagram) (rows old_n old_e : List ℕ) (w : ℕ) (step : Step) (list ns es : List ℕ) (n : ℕ) (k : Counts) → Stepped run old_n old_e step ns es → step ≡ Stopped n k → Done (squashed run f rows) old_n old_e w step list ns es
+pub squash_stops : (run : Run) (f : Diagram → Diagram) (rows old_n old_e : List ℕ) (w : ℕ) (step : Said) (list ns es : List ℕ) (n : ℕ) (k : Counts) → Stepped run old_n old_e step ns es → step ≡ Stopped n k → Done (squashed run f rows) old_n old_e w step list ns es
 unfolding squashed
 squash_stops (going d) f rows old_n old_e w step list ns es n k st q =
     let e = st.step_is in
@@ -97,11 +86,8 @@ squash_stops (stopped i d) f rows old_n old_e w step list ns es n k st q = recor
 
 -- ---- what the situation allows to read
 
-pub placed_of : (start : ℕ) (k : Counts) (rooms : Rooms) (keep count : ℕ) (list ns es : List ℕ) → Squashable start k rooms keep count list ns es → (n : ℕ) → n ≤ count → Placed list n ns
-placed_of start k rooms keep count list ns es sit n h =
+pub placed_of : (start : ℕ) (k : Counts) (rooms : Rooms) (keep : ℕ) (rows ns es : List ℕ) → Squashable start k rooms keep rows ns es → (part : List ℕ) → ((r : ℕ) → Memᴰ r part → Memᴰ r rows) → Placed part ns
+placed_of start k rooms keep rows ns es sit part sub =
     let g = sit.squashes in
     let b = nodes_in sit.diagram sit.old_n sit.old_e ns es g.held in
-    record {
-      places = omega (arith, sit.places);
-      inside = λ r i. omega (arith, g.rows_in r (take_mem n count list r h i), b);
-    }
+    record { inside = λ r i. omega (arith, g.rows_in r (sub r i), b) }

@@ -19,14 +19,12 @@ use Rattle.theorems.proofs.Links.{WiredMerge, node_wired, node_is, node_was}
 use Rattle.rows.specs.Access.{NodeRead, NodeWritten}
 use Rattle.branch.specs.declared.Counts.{Counts}
 use Rattle.branch.specs.declared.Rooms.{Rooms}
-use Rattle.branch.specs.declared.Step.{Step}
-use Rattle.branch.specs.declared.Step.TheVariants.{Going, Stopped}
-use Rattle.branch.specs.State.{counts_of, Held, Stepped, Ready}
+use Rattle.branch.specs.State.{Said, Going, Stopped, counts_of, Held, Stepped}
 use Rattle.branch.proofs.Children.{counted_nodes}
 use Rattle.squash.specs.Merging.{Merges, Sits, AllMerged}
 use Rattle.squash.specs.Squashing.{Done, Squashes, Squashable, RowMade, NewMerged}
-use Rattle.squash.proofs.Changing.{row_mem}
-use Rattle.squash.proofs.Tables.{nodes_in, ready_of}
+use Rattle.squash.proofs.Changing.{place_mem}
+use Rattle.squash.proofs.Tables.{nodes_in}
 use Rattle.squash.proofs.Layer.{drop_mem, first_rest, rows_set, beyond_set, squash_stops}
 
 -- the merged row as it is written
@@ -50,8 +48,8 @@ pushed_counts : (n : Node) (d : Diagram) (k : Counts) → k ≡ counts_of d → 
 unfolding push_node with_nodes
 pushed_counts n d k e = rw (e, length-append)
 
-module _ (start : ℕ) (k : Counts) (rooms : Rooms) (capacity keep count : ℕ) (list ns es : List ℕ) where
-  pub new_10 : 1024 ≤ k.nodes - start → NewMerged start k rooms capacity keep count list ns es (Stopped 10 k) list ns es
+module _ (start : ℕ) (k : Counts) (rooms : Rooms) (capacity keep : ℕ) (rows ns es : List ℕ) where
+  pub new_10 : 1024 ≤ k.nodes - start → NewMerged start k rooms capacity keep rows ns es (Stopped 10 k) rows ns es
   unfolding merge_into squash_need
   new_10 h =
       record {
@@ -62,7 +60,7 @@ module _ (start : ℕ) (k : Counts) (rooms : Rooms) (capacity keep count : ℕ) 
         beyond = refl;
       }
 
-  pub new_11 : k.nodes - start < 1024 → rooms.nodes ≤ k.nodes → NewMerged start k rooms capacity keep count list ns es (Stopped 11 k) list ns es
+  pub new_11 : k.nodes - start < 1024 → rooms.nodes ≤ k.nodes → NewMerged start k rooms capacity keep rows ns es (Stopped 11 k) rows ns es
   unfolding merge_into squash_need
   new_11 h i =
       record {
@@ -74,21 +72,18 @@ module _ (start : ℕ) (k : Counts) (rooms : Rooms) (capacity keep count : ℕ) 
         beyond = refl;
       }
 
-  module _ (sit : Squashable start k rooms keep count list ns es) where
-    pub new_ready : Ready start k rooms ns es
-    new_ready = ready_of sit.diagram sit.old_n sit.old_e ns es sit.squashes.held sit.settings start k rooms sit.squashes.stands
-
-    pub new_reads : (r : ℕ) → r ≡ get_or list keep 0 → r * node_words + node_words ≤ length ns
+  module _ (sit : Squashable start k rooms keep rows ns es) where
+    pub new_reads : (r : ℕ) → r ≡ get_or rows keep 0 → r * node_words + node_words ≤ length ns
     new_reads r q =
         let g = sit.squashes in
-        let i : Memᴰ r (take count list) = rw q (row_mem list count keep sit.places sit.wide) in
+        let i : Memᴰ r rows = rw q (place_mem rows keep sit.wide) in
         omega (arith, g.rows_in r i, nodes_in sit.diagram sit.old_n sit.old_e ns es g.held)
 
-  module _ (l : count ≤ length list) (h : keep < count) (r : ℕ) (rq : r ≡ get_or list keep 0) (first : Node) (read : NodeRead ns r first) (room : k.nodes < rooms.nodes) (ns₁ : List ℕ) (made : RowMade capacity first.depth ns k.nodes ns₁) where
+  module _ (h : keep < length rows) (r : ℕ) (rq : r ≡ get_or rows keep 0) (first : Node) (read : NodeRead ns r first) (room : k.nodes < rooms.nodes) (ns₁ : List ℕ) (made : RowMade capacity first.depth ns k.nodes ns₁) where
     -- the depth that the new row gets
-    module _ (s : Settings) (d : Diagram) (old_n old_e : List ℕ) (g : Squashes s d old_n old_e start k rooms count list ns es) where
-      first_mem : Memᴰ r (take count list)
-      first_mem = rw rq (row_mem list count keep l h)
+    module _ (s : Settings) (d : Diagram) (old_n old_e : List ℕ) (g : Squashes s d old_n old_e start k rooms rows ns es) where
+      first_mem : Memᴰ r rows
+      first_mem = rw rq (place_mem rows keep h)
 
       first_is : first ≡ node_at d.nodes r
       first_is = read.is_row d.nodes old_n g.held.nodes_are (g.rows_in r first_mem)
@@ -96,10 +91,10 @@ module _ (start : ℕ) (k : Counts) (rooms : Rooms) (capacity keep count : ℕ) 
       first_deep : first.depth ≡ g.depth
       first_deep = ap (λ (n : Node). n.depth) first_is ∙ g.rows_deep r first_mem
 
-      first_depth : first.depth ≡ (node_at d.nodes (get_or (drop keep (take count list)) 0 0)).depth
-      first_depth = ap (λ (n : Node). n.depth) first_is ∙ ap (λ (i : ℕ). (node_at d.nodes i).depth) (rq ∙ sym (first_rest list keep count l h))
+      first_depth : first.depth ≡ (node_at d.nodes (get_or (drop keep rows) 0 0)).depth
+      first_depth = ap (λ (n : Node). n.depth) first_is ∙ ap (λ (i : ℕ). (node_at d.nodes i).depth) (rq ∙ sym (first_rest rows keep h))
 
-      new_wired : WiredMerge g.depth (length d.nodes) (drop keep (take count list)) (push_node (merged_row capacity first.depth) d)
+      new_wired : WiredMerge g.depth (length d.nodes) (drop keep rows) (push_node (merged_row capacity first.depth) d)
       new_wired =
           let n = merged_row capacity first.depth in
           let z = merged_links capacity first.depth in
@@ -108,12 +103,12 @@ module _ (start : ℕ) (k : Counts) (rooms : Rooms) (capacity keep count : ℕ) 
             wired = node_wired n d z.0 z.1 g.stands.start_in g.wired;
             depth = ap (λ (m : Node). m.depth) i.0 ∙ z.2 ∙ first_deep;
             rest_deps = λ q j.
-                let u = drop_mem keep (take count list) q j in
+                let u = drop_mem keep rows q j in
                 let b = g.rows_in q u in
                 (omega (arith, i.1), ap (λ (m : Node). m.depth) (node_was n d q b) ∙ g.rows_deep q u);
           }
 
-      new_merges : Merges s (push_node (merged_row capacity first.depth) d) old_n old_e start (record { nodes = k.nodes + 1; edges = k.edges }) rooms k.nodes (drop keep (take count list)) ns₁ es
+      new_merges : Merges s (push_node (merged_row capacity first.depth) d) old_n old_e start (record { nodes = k.nodes + 1; edges = k.edges }) rooms k.nodes (drop keep rows) ns₁ es
       new_merges =
           let n = merged_row capacity first.depth in
           let i = node_is n d in
@@ -133,13 +128,13 @@ module _ (start : ℕ) (k : Counts) (rooms : Rooms) (capacity keep count : ℕ) 
             mergeable = record {
               merged_above = omega (arith, st.start_in, i.2);
               merged_in = omega (arith, i.1);
-              rest_above = λ q j. omega (arith, g.rows_above q (drop_mem keep (take count list) q j), i.2);
+              rest_above = λ q j. omega (arith, g.rows_above q (drop_mem keep rows q j), i.2);
               depth = g.depth;
-              wired = subst (λ (m : ℕ). WiredMerge g.depth m (drop keep (take count list)) (push_node n d)) (sym c) new_wired;
+              wired = subst (λ (m : ℕ). WiredMerge g.depth m (drop keep rows) (push_node n d)) (sym c) new_wired;
             };
           }
 
-    pub new_sits : Squashable start k rooms keep count list ns es → Sits start (record { nodes = k.nodes + 1; edges = k.edges }) rooms k.nodes (drop keep (take count list)) ns₁ es
+    pub new_sits : Squashable start k rooms keep rows ns es → Sits start (record { nodes = k.nodes + 1; edges = k.edges }) rooms k.nodes (drop keep rows) ns₁ es
     new_sits sit =
         record {
           settings = sit.settings;
@@ -149,9 +144,9 @@ module _ (start : ℕ) (k : Counts) (rooms : Rooms) (capacity keep count : ℕ) 
           merges = new_merges sit.settings sit.diagram sit.old_n sit.old_e sit.squashes;
         }
 
-    module _ (low : k.nodes - start < 1024) (step : Step) (ns₂ es₂ : List ℕ) (did : AllMerged start (record { nodes = k.nodes + 1; edges = k.edges }) rooms k.nodes keep count list ns₁ es step ns₂ es₂) where
+    module _ (low : k.nodes - start < 1024) (step : Said) (ns₂ es₂ : List ℕ) (did : AllMerged start (record { nodes = k.nodes + 1; edges = k.edges }) rooms k.nodes (drop keep rows) ns₁ es step ns₂ es₂) where
       -- both needs are met: what is left is the merge
-      into_new : (s : Settings) (d : Diagram) (old_n old_e : List ℕ) (g : Squashes s d old_n old_e start k rooms count list ns es) → merge_into nowhere s capacity (take keep (take count list)) (drop keep (take count list)) d ≡ squashed (merge_all s (length d.nodes) (drop keep (take count list)) (push_node (merged_row capacity (node_at d.nodes (get_or (drop keep (take count list)) 0 0)).depth) d)) (λ e. e) (take keep (take count list) ++ (length d.nodes ∷ []))
+      into_new : (s : Settings) (d : Diagram) (old_n old_e : List ℕ) (g : Squashes s d old_n old_e start k rooms rows ns es) → merge_into nowhere s capacity (take keep rows) (drop keep rows) d ≡ squashed (merge_all s (length d.nodes) (drop keep rows) (push_node (merged_row capacity (node_at d.nodes (get_or (drop keep rows) 0 0)).depth) d)) (λ e. e) (take keep rows ++ (length d.nodes ∷ []))
       unfolding merge_into squash_need
       into_new s d old_n old_e g =
           let n = counted_nodes d k g.stands.counts_are in
@@ -159,20 +154,20 @@ module _ (start : ℕ) (k : Counts) (rooms : Rooms) (capacity keep count : ℕ) 
           let b : ltb (length d.nodes) s.node_room ≡ true = lt-ltb (length d.nodes) s.node_room (omega (arith, g.stands.node_room)) in
           rw (f, b)
 
-      new_stepped : (s : Settings) (d : Diagram) (old_n old_e : List ℕ) (g : Squashes s d old_n old_e start k rooms count list ns es) → Stepped (merge_all s (length d.nodes) (drop keep (take count list)) (push_node (merged_row capacity (node_at d.nodes (get_or (drop keep (take count list)) 0 0)).depth) d)) old_n old_e step ns₂ es₂
+      new_stepped : (s : Settings) (d : Diagram) (old_n old_e : List ℕ) (g : Squashes s d old_n old_e start k rooms rows ns es) → Stepped (merge_all s (length d.nodes) (drop keep rows) (push_node (merged_row capacity (node_at d.nodes (get_or (drop keep rows) 0 0)).depth) d)) old_n old_e step ns₂ es₂
       new_stepped s d old_n old_e g =
-          subst (λ (dp : ℕ). Stepped (merge_all s (length d.nodes) (drop keep (take count list)) (push_node (merged_row capacity dp) d)) old_n old_e step ns₂ es₂) (first_depth s d old_n old_e g)
-          (subst (λ (m : ℕ). Stepped (merge_all s m (drop keep (take count list)) (push_node (merged_row capacity first.depth) d)) old_n old_e step ns₂ es₂) (counted_nodes d k g.stands.counts_are)
+          subst (λ (dp : ℕ). Stepped (merge_all s (length d.nodes) (drop keep rows) (push_node (merged_row capacity dp) d)) old_n old_e step ns₂ es₂) (first_depth s d old_n old_e g)
+          (subst (λ (m : ℕ). Stepped (merge_all s m (drop keep rows) (push_node (merged_row capacity first.depth) d)) old_n old_e step ns₂ es₂) (counted_nodes d k g.stands.counts_are)
           (did.does s (push_node (merged_row capacity first.depth) d) old_n old_e (new_merges s d old_n old_e g)))
 
-      pub new_stopped : (n : ℕ) (k' : Counts) → step ≡ Stopped n k' → NewMerged start k rooms capacity keep count list ns es step list ns₂ es₂
+      pub new_stopped : (n : ℕ) (k' : Counts) → step ≡ Stopped n k' → NewMerged start k rooms capacity keep rows ns es step rows ns₂ es₂
       new_stopped n k' q =
           record {
-            does = λ s d old_n old_e g. rw (into_new s d old_n old_e g) (squash_stops _ (λ e. e) _ old_n old_e (suc keep) step list ns₂ es₂ n k' (new_stepped s d old_n old_e g) q);
+            does = λ s d old_n old_e g. rw (into_new s d old_n old_e g) (squash_stops _ (λ e. e) _ old_n old_e (suc keep) step rows ns₂ es₂ n k' (new_stepped s d old_n old_e g) q);
             beyond = refl;
           }
 
-      listed_new : (k' : Counts) → step ≡ Going k' → (n : ℕ) → k.nodes ≡ n → (run : Run) (old_n old_e : List ℕ) → Stepped run old_n old_e step ns₂ es₂ → Done (squashed run (λ e. e) (take keep (take count list) ++ (n ∷ []))) old_n old_e (suc keep) (Going k') (set list keep k.nodes) ns₂ es₂
+      listed_new : (k' : Counts) → step ≡ Going k' → (n : ℕ) → k.nodes ≡ n → (run : Run) (old_n old_e : List ℕ) → Stepped run old_n old_e step ns₂ es₂ → Done (squashed run (λ e. e) (take keep rows ++ (n ∷ []))) old_n old_e (suc keep) (Going k') (set rows keep k.nodes) ns₂ es₂
       unfolding squashed
       listed_new k' q n e (stopped i x) old_n old_e st =
           let p = st.step_is in
@@ -184,12 +179,12 @@ module _ (start : ℕ) (k : Counts) (rooms : Rooms) (capacity keep count : ℕ) 
           record {
             step_is = ap Going kq;
             held = st.held;
-            rows_are = ap (λ (i : ℕ). take keep (take count list) ++ (i ∷ [])) (sym e) ∙ rows_set list keep count l h k.nodes;
+            rows_are = ap (λ (i : ℕ). take keep rows ++ (i ∷ [])) (sym e) ∙ rows_set rows keep h k.nodes;
           }
 
-      pub new_going : (k' : Counts) → step ≡ Going k' → NewMerged start k rooms capacity keep count list ns es (Going k') (set list keep k.nodes) ns₂ es₂
+      pub new_going : (k' : Counts) → step ≡ Going k' → NewMerged start k rooms capacity keep rows ns es (Going k') (set rows keep k.nodes) ns₂ es₂
       new_going k' q =
           record {
             does = λ s d old_n old_e g. rw (into_new s d old_n old_e g) (listed_new k' q (length d.nodes) (counted_nodes d k g.stands.counts_are) _ old_n old_e (new_stepped s d old_n old_e g));
-            beyond = beyond_set list keep count l h k.nodes;
+            beyond = beyond_set rows keep h k.nodes;
           }

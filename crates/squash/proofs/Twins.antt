@@ -1,8 +1,8 @@
 -- The merge into a kept row: which row the scan found, and the tables after the merge.
-use mathlib.Core.Path.{◌≡◌, refl, sym, ap, ◌∙◌}
+use mathlib.Core.Path.{◌≡◌, refl, sym, ap}
 use mathlib.Core.Bool.{true, false}
-use mathlib.Core.List.{List, [], ◌∷◌, ◌++◌, Memᴰ}
-use Prim.Native.Nat.{ℕ, suc, ◌+◌, ◌*◌, ◌<◌, ◌≤◌}
+use mathlib.Core.List.{List, [], ◌∷◌, Memᴰ}
+use Prim.Native.Nat.{ℕ, ◌+◌, ◌*◌, ◌<◌, ◌≤◌}
 use native.Mathlib.Omega.{arith}
 use lib.Dec.{eqb}
 use lib.ListN.{length, get_or, take, drop, length-set}
@@ -15,16 +15,15 @@ use Rattle.layout.specs.Rows.{node_words}
 use Rattle.theorems.proofs.Links.{SameLinks}
 use Rattle.branch.specs.declared.Counts.{Counts}
 use Rattle.branch.specs.declared.Rooms.{Rooms}
-use Rattle.branch.specs.declared.Step.{Step}
-use Rattle.branch.specs.declared.Step.TheVariants.{Going, Stopped}
 use Rattle.branch.specs.State as State
-use Rattle.branch.specs.State.{counts_of, Stepped}
+use Rattle.branch.specs.State.{Said, Going, Stopped, counts_of, Stepped}
 use Rattle.squash.specs.Places.{RowChanged}
 use Rattle.squash.specs.Merging.{Merges, Sits, AllMerged}
 use Rattle.squash.specs.Squashing.{Done, Squashes, TwinMerged}
 use Rattle.squash.proofs.Tables.{nodes_in}
-use Rattle.squash.proofs.Absorbing.{changed_merges, mem_from}
-use Rattle.squash.proofs.Layer.{drop_mem, first_rest, rows_stay, merge_long, squash_stops}
+use Rattle.squash.proofs.Changing.{place_mem}
+use Rattle.squash.proofs.Absorbing.{changed_merges}
+use Rattle.squash.proofs.Layer.{drop_mem, merge_long, squash_stops}
 
 relaxed_links : (n : Node) → SameLinks n (as_relaxed n)
 unfolding as_relaxed
@@ -40,20 +39,20 @@ twin_mem ns capacity (r ∷ rs) m e =
     (λ q f. Memᴰ.tail (twin_mem ns capacity rs m f))) e
 
 -- rows of one depth are mergeable into any of them
-pub twin_merges : (s : Settings) (d : Diagram) (old_n old_e : List ℕ) (start : ℕ) (k : Counts) (rooms : Rooms) (keep count m : ℕ) (list ns es : List ℕ) → Memᴰ m (take count list) → Squashes s d old_n old_e start k rooms count list ns es → Merges s d old_n old_e start k rooms m (drop keep (take count list)) ns es
-twin_merges s d old_n old_e start k rooms keep count m list ns es i g =
+pub twin_merges : (s : Settings) (d : Diagram) (old_n old_e : List ℕ) (start : ℕ) (k : Counts) (rooms : Rooms) (keep m : ℕ) (rows ns es : List ℕ) → Memᴰ m rows → Squashes s d old_n old_e start k rooms rows ns es → Merges s d old_n old_e start k rooms m (drop keep rows) ns es
+twin_merges s d old_n old_e start k rooms keep m rows ns es i g =
     record {
       stands = g.stands;
       held = g.held;
       mergeable = record {
         merged_above = g.rows_above m i;
         merged_in = g.rows_in m i;
-        rest_above = λ r j. g.rows_above r (drop_mem keep (take count list) r j);
+        rest_above = λ r j. g.rows_above r (drop_mem keep rows r j);
         depth = g.depth;
         wired = record {
           wired = g.wired;
           depth = g.rows_deep m i;
-          rest_deps = λ r j. let z = drop_mem keep (take count list) r j in (g.rows_in r z, g.rows_deep r z);
+          rest_deps = λ r j. let z = drop_mem keep rows r j in (g.rows_in r z, g.rows_deep r z);
         };
       };
     }
@@ -79,46 +78,46 @@ module _ (start : ℕ) (k : Counts) (rooms : Rooms) (m : ℕ) (rest ns es : List
         merges = relaxes ns₁ w sit.settings sit.diagram sit.old_n sit.old_e sit.merges;
       }
 
-module _ (start : ℕ) (k : Counts) (rooms : Rooms) (m keep count : ℕ) (list ns es : List ℕ) where
-  pub first_reads : Sits start k rooms m (drop keep (take count list)) ns es → keep < count → count ≤ length list → (r : ℕ) → r ≡ get_or list keep 0 → r * node_words + node_words ≤ length ns
-  first_reads sit h l r q =
+  pub first_reads : Sits start k rooms m rest ns es → 0 < length rest → (r : ℕ) → r ≡ get_or rest 0 0 → r * node_words + node_words ≤ length ns
+  first_reads sit h r q =
       let g = sit.merges in
-      omega (arith, (g.mergeable.wired.rest_deps r (mem_from list keep count keep r l (omega arith) h q)).0, nodes_in sit.diagram sit.old_n sit.old_e ns es g.held)
+      let i : Memᴰ r rest = rw q (place_mem rest 0 h) in
+      omega (arith, (g.mergeable.wired.rest_deps r i).0, nodes_in sit.diagram sit.old_n sit.old_e ns es g.held)
 
-  module _ (ns₁ : List ℕ) (w : RowChanged as_relaxed ns m ns₁) where
-    module _ (step : Step) (ns₂ es₂ : List ℕ) (did : AllMerged start k rooms m keep count list ns₁ es step ns₂ es₂) where
-      pub twin_stopped : (n : ℕ) (k' : Counts) → step ≡ Stopped n k' → TwinMerged start k rooms m keep count list ns es step ns₂ es₂
-      twin_stopped n k' q =
+  module _ (ns₁ : List ℕ) (w : RowChanged as_relaxed ns m ns₁) (step : Said) (ns₂ es₂ : List ℕ) (did : AllMerged start k rooms m rest ns₁ es step ns₂ es₂) where
+    pub twin_stopped : (n : ℕ) (k' : Counts) → step ≡ Stopped n k' → TwinMerged start k rooms m rest ns es step ns₂ es₂
+    twin_stopped n k' q =
+        record {
+          does = λ s d old_n old_e g i list. squash_stops _ _ _ old_n old_e _ step list ns₂ es₂ n k' (did.does s _ old_n old_e (relaxes ns₁ w s d old_n old_e g)) q;
+        }
+
+    module _ (h : 0 < length rest) (r : ℕ) (rq : r ≡ get_or rest 0 0) (ns₃ : List ℕ) (v : RowChanged (with_deleted false) ns₂ r ns₃) (k' : Counts) (q : step ≡ Going k') where
+      -- the first merged row is kept
+      kept_first : (run : Run) (old_n old_e : List ℕ) (i : ℕ) (list : List ℕ) → r < length (State.diagram_of run).nodes → Stepped run old_n old_e step ns₂ es₂ → Done (squashed run (keep_first (get_or rest 0 0)) (take i list)) old_n old_e i (Going k') list ns₃ es₂
+      unfolding squashed keep_first with_nodes
+      kept_first (stopped n e) old_n old_e i list b st =
+          let p = st.step_is in
+          let y : ◌≡◌ {A = ℕ} 0 1 = cc in
+          absurd (omega arith)
+      kept_first (going e) old_n old_e i list b st =
+          let p = st.step_is in
+          let kq : k' ≡ counts_of e = cc in
+          let f : get_or rest 0 0 ≡ r = sym rq in
+          let n : length (update (with_deleted false) e.nodes r) ≡ length e.nodes = length-set e.nodes r _ in
           record {
-            does = λ s d old_n old_e g. squash_stops _ _ _ old_n old_e _ step list ns₂ es₂ n k' (did.does s _ old_n old_e (relaxes start k rooms m (drop keep (take count list)) ns es ns₁ w s d old_n old_e g)) q;
+            step_is = rw (f, n) (ap Going kq);
+            held = rw f (record { nodes_are = v.does e.nodes old_n st.held.nodes_are b; edges_are = st.held.edges_are });
+            rows_are = refl;
           }
 
-      module _ (l : count ≤ length list) (h : keep < count) (r : ℕ) (rq : r ≡ get_or list keep 0) (ns₃ : List ℕ) (v : RowChanged (with_deleted false) ns₂ r ns₃) (k' : Counts) (q : step ≡ Going k') where
-        -- the first merged row is kept
-        kept_first : (run : Run) (old_n old_e : List ℕ) → r < length (State.diagram_of run).nodes → Stepped run old_n old_e step ns₂ es₂ → Done (squashed run (keep_first (get_or (drop keep (take count list)) 0 0)) (take keep (take count list) ++ (get_or (drop keep (take count list)) 0 0 ∷ []))) old_n old_e (suc keep) (Going k') list ns₃ es₂
-        unfolding squashed keep_first with_nodes
-        kept_first (stopped n e) old_n old_e b st =
-            let p = st.step_is in
-            let y : ◌≡◌ {A = ℕ} 0 1 = cc in
-            absurd (omega arith)
-        kept_first (going e) old_n old_e b st =
-            let p = st.step_is in
-            let kq : k' ≡ counts_of e = cc in
-            let f : get_or (drop keep (take count list)) 0 0 ≡ r = first_rest list keep count l h ∙ sym rq in
-            let n : length (update (with_deleted false) e.nodes r) ≡ length e.nodes = length-set e.nodes r _ in
-            record {
-              step_is = rw (f, n) (ap Going kq);
-              held = rw f (record { nodes_are = v.does e.nodes old_n st.held.nodes_are b; edges_are = st.held.edges_are });
-              rows_are = rows_stay list keep count l h;
-            }
-
-        pub twin_going : TwinMerged start k rooms m keep count list ns es (Going k') ns₃ es₂
-        unfolding with_nodes
-        twin_going =
-            record {
-              does = λ s d old_n old_e g.
-                  let a = relaxes start k rooms m (drop keep (take count list)) ns es ns₁ w s d old_n old_e g in
-                  let b = (a.mergeable.wired.rest_deps r (mem_from list keep count keep r l (omega arith) h rq)).0 in
-                  kept_first (merge_all s m (drop keep (take count list)) (with_nodes d (update as_relaxed d.nodes m))) old_n old_e
-                  (rw (merge_long s m (drop keep (take count list)) (with_nodes d (update as_relaxed d.nodes m))) b) (did.does s _ old_n old_e a);
-            }
+      pub twin_going : TwinMerged start k rooms m rest ns es (Going k') ns₃ es₂
+      unfolding with_nodes
+      twin_going =
+          record {
+            does = λ s d old_n old_e g i list.
+                let a = relaxes ns₁ w s d old_n old_e g in
+                let mem : Memᴰ r rest = rw rq (place_mem rest 0 h) in
+                let b = (a.mergeable.wired.rest_deps r mem).0 in
+                kept_first (merge_all s m rest (with_nodes d (update as_relaxed d.nodes m))) old_n old_e i list
+                (rw (merge_long s m rest (with_nodes d (update as_relaxed d.nodes m))) b) (did.does s _ old_n old_e a);
+          }

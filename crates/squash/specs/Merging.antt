@@ -1,14 +1,13 @@
 -- The tables while rows of the coming layer are merged into row m: what they must hold, and what copying edges and merging promise.
 use mathlib.Core.List.{List, [], ◌∷◌, Memᴰ}
-use Rattle.std.specs.Prelude.{ℕ, ◌<◌, ◌≤◌, length, take, drop}
+use Rattle.std.specs.Prelude.{ℕ, ◌<◌, ◌≤◌, length}
 use Rattle.diagram.specs.Tables.{Diagram, inbound}
 use Rattle.diagram.specs.Run.{Settings}
 use Rattle.diagram.specs.Rule6.{copy_edges, merge_all}
 use Rattle.theorems.proofs.Links.{WiredMerge}
 use Rattle.branch.specs.declared.Counts.{Counts}
 use Rattle.branch.specs.declared.Rooms.{Rooms}
-use Rattle.branch.specs.declared.Step.{Step}
-use Rattle.branch.specs.State.{Stands, Held, Stepped}
+use Rattle.branch.specs.State.{Said, Stands, Held, Stepped}
 
 -- Row m and the rows of rest lie in the coming layer and have one depth, and the edges are wired.
 pub record Mergeable (m : ℕ) (rest : List ℕ) (d : Diagram) : Type 0 where
@@ -33,9 +32,9 @@ pub record Sits (start : ℕ) (k : Counts) (rooms : Rooms) (m : ℕ) (rest ns es
   pub merges : Merges settings diagram old_n old_e start k rooms m rest ns es
 
 -- The inbound edges of row r are copied to row m.
-pub record EdgesCopied (start : ℕ) (k : Counts) (rooms : Rooms) (m r : ℕ) (ns es : List ℕ) (step : Step) (ns' es' : List ℕ) : Type 0 where
+pub record EdgesCopied (start : ℕ) (k : Counts) (rooms : Rooms) (m r : ℕ) (ns es : List ℕ) (step : Said) (ns' es' : List ℕ) : Type 0 where
   pub does : (s : Settings) (d : Diagram) (old_n old_e : List ℕ) → Merges s d old_n old_e start k rooms m (r ∷ []) ns es → Stepped (copy_edges s m (inbound d.edges r) d) old_n old_e step ns' es'
 
--- The rows in places from .. count are merged into row m.
-pub record AllMerged (start : ℕ) (k : Counts) (rooms : Rooms) (m from count : ℕ) (list ns es : List ℕ) (step : Step) (ns' es' : List ℕ) : Type 0 where
-  pub does : (s : Settings) (d : Diagram) (old_n old_e : List ℕ) → Merges s d old_n old_e start k rooms m (drop from (take count list)) ns es → Stepped (merge_all s m (drop from (take count list)) d) old_n old_e step ns' es'
+-- The rows of rest are merged into row m.
+pub record AllMerged (start : ℕ) (k : Counts) (rooms : Rooms) (m : ℕ) (rest ns es : List ℕ) (step : Said) (ns' es' : List ℕ) : Type 0 where
+  pub does : (s : Settings) (d : Diagram) (old_n old_e : List ℕ) → Merges s d old_n old_e start k rooms m rest ns es → Stepped (merge_all s m rest d) old_n old_e step ns' es'

@@ -10,13 +10,11 @@ use Rattle.layout.specs.Rows.{node_words, node_table}
 use Rattle.theorems.proofs.Links.{Wired}
 use Rattle.branch.specs.declared.Counts.{Counts}
 use Rattle.branch.specs.declared.Rooms.{Rooms}
-use Rattle.branch.specs.declared.Step.{Step}
-use Rattle.branch.specs.declared.Step.TheVariants.{Going, Stopped}
-use Rattle.branch.specs.State.{counts_of, Stands, Held}
+use Rattle.branch.specs.State.{Said, Going, Stopped, counts_of, Stands, Held}
 use Rattle.squash.specs.Merging.{Merges}
 
 -- what a squash of the definition looks like to the code
-abbrev pub step_of : Squashed → Step
+abbrev pub step_of : Squashed → Said
 step_of (layer d rows) = Going (counts_of d)
 step_of (halted n d) = Stopped n (counts_of d)
 
@@ -30,46 +28,45 @@ Listed n list (layer d rows) = rows ≡ take n list
 Listed n list (halted i d) = Unit {0}
 
 -- The step, the tables and the list's first n places equal the definition's squash.
-pub record Done (result : Squashed) (old_n old_e : List ℕ) (n : ℕ) (step : Step) (list ns es : List ℕ) : Type 0 where
+pub record Done (result : Squashed) (old_n old_e : List ℕ) (n : ℕ) (step : Said) (list ns es : List ℕ) : Type 0 where
   pub step_is : step ≡ step_of result
   pub held : Held (diagram_of result) old_n old_e ns es
   pub rows_are : Listed n list result
 
--- The tables hold d, whose edges are wired, and the list's first count places name rows of the coming layer, all of one depth.
-pub record Squashes (s : Settings) (d : Diagram) (old_n old_e : List ℕ) (start : ℕ) (k : Counts) (rooms : Rooms) (count : ℕ) (list ns es : List ℕ) : Type 0 where
+-- The tables hold d, whose edges are wired, and the rows are rows of the coming layer, all of one depth.
+pub record Squashes (s : Settings) (d : Diagram) (old_n old_e : List ℕ) (start : ℕ) (k : Counts) (rooms : Rooms) (rows ns es : List ℕ) : Type 0 where
   pub stands : Stands s d old_n old_e start k rooms
   pub held : Held d old_n old_e ns es
   pub wired : Wired d
   pub depth : ℕ
-  pub rows_above : (r : ℕ) → Memᴰ r (take count list) → d.start ≤ r
-  pub rows_in : (r : ℕ) → Memᴰ r (take count list) → r < length d.nodes
-  pub rows_deep : (r : ℕ) → Memᴰ r (take count list) → (node_at d.nodes r).depth ≡ depth
+  pub rows_above : (r : ℕ) → Memᴰ r rows → d.start ≤ r
+  pub rows_in : (r : ℕ) → Memᴰ r rows → r < length d.nodes
+  pub rows_deep : (r : ℕ) → Memᴰ r rows → (node_at d.nodes r).depth ≡ depth
 
--- There is such a situation, and there are rows behind the first keep places.
-pub record Squashable (start : ℕ) (k : Counts) (rooms : Rooms) (keep count : ℕ) (list ns es : List ℕ) : Type 0 where
+-- There is such a situation, and there are rows behind the first keep ones.
+pub record Squashable (start : ℕ) (k : Counts) (rooms : Rooms) (keep : ℕ) (rows ns es : List ℕ) : Type 0 where
   pub settings : Settings
   pub diagram : Diagram
   pub old_n : List ℕ
   pub old_e : List ℕ
-  pub squashes : Squashes settings diagram old_n old_e start k rooms count list ns es
-  pub wide : keep < count
-  pub places : count ≤ length list
+  pub squashes : Squashes settings diagram old_n old_e start k rooms rows ns es
+  pub wide : keep < length rows
 
 -- table t becomes u when the merged row is appended as row r
 pub record RowMade (capacity depth : ℕ) (t : List ℕ) (r : ℕ) (u : List ℕ) : Type 0 where
   pub does : (ns : List Node) (old : List ℕ) → t ≡ over (node_table ns) old → r ≡ length ns → suc r * node_words ≤ length old → u ≡ over (node_table (ns ++ (merged_row capacity depth ∷ []))) old
 
--- The rows behind the first keep places are merged into the kept row m, and the first of them is kept too.
-pub record TwinMerged (start : ℕ) (k : Counts) (rooms : Rooms) (m keep count : ℕ) (list ns es : List ℕ) (step : Step) (ns' es' : List ℕ) : Type 0 where
-  pub does : (s : Settings) (d : Diagram) (old_n old_e : List ℕ) → Merges s d old_n old_e start k rooms m (drop keep (take count list)) ns es
-      → Done (squashed (merge_all s m (drop keep (take count list)) (with_nodes d (update as_relaxed d.nodes m))) (keep_first (get_or (drop keep (take count list)) 0 0)) (take keep (take count list) ++ (get_or (drop keep (take count list)) 0 0 ∷ []))) old_n old_e (suc keep) step list ns' es'
+-- The rows of rest are merged into the kept row m, and the first of them is kept too: whatever rows are to be expanded then.
+pub record TwinMerged (start : ℕ) (k : Counts) (rooms : Rooms) (m : ℕ) (rest ns es : List ℕ) (step : Said) (ns' es' : List ℕ) : Type 0 where
+  pub does : (s : Settings) (d : Diagram) (old_n old_e : List ℕ) → Merges s d old_n old_e start k rooms m rest ns es → (n : ℕ) (list : List ℕ)
+      → Done (squashed (merge_all s m rest (with_nodes d (update as_relaxed d.nodes m))) (keep_first (get_or rest 0 0)) (take n list)) old_n old_e n step list ns' es'
 
--- They are merged into a new row of that capacity, whose number then stands behind the first keep places.
-pub record NewMerged (start : ℕ) (k : Counts) (rooms : Rooms) (capacity keep count : ℕ) (list ns es : List ℕ) (step : Step) (list' ns' es' : List ℕ) : Type 0 where
-  pub does : (s : Settings) (d : Diagram) (old_n old_e : List ℕ) → Squashes s d old_n old_e start k rooms count list ns es → Done (merge_into nowhere s capacity (take keep (take count list)) (drop keep (take count list)) d) old_n old_e (suc keep) step list' ns' es'
-  pub beyond : drop (suc keep) list' ≡ drop (suc keep) list
+-- The rows behind the first keep ones are merged into a new row of that capacity, whose number then stands behind those.
+pub record NewMerged (start : ℕ) (k : Counts) (rooms : Rooms) (capacity keep : ℕ) (rows ns es : List ℕ) (step : Said) (rows' ns' es' : List ℕ) : Type 0 where
+  pub does : (s : Settings) (d : Diagram) (old_n old_e : List ℕ) → Squashes s d old_n old_e start k rooms rows ns es → Done (merge_into nowhere s capacity (take keep rows) (drop keep rows) d) old_n old_e (suc keep) step rows' ns' es'
+  pub beyond : drop (suc keep) rows' ≡ drop (suc keep) rows
 
--- The relaxed squash. Where it goes on, the list's first width places are the layer.
-pub record Relaxed (start : ℕ) (k : Counts) (rooms : Rooms) (width count : ℕ) (list ns es : List ℕ) (step : Step) (list' ns' es' : List ℕ) : Type 0 where
-  pub does : (s : Settings) (d : Diagram) (old_n old_e : List ℕ) → s.width ≡ width → Squashes s d old_n old_e start k rooms count list ns es → Done (relax s (take count list) d) old_n old_e width step list' ns' es'
-  pub beyond : drop width list' ≡ drop width list
+-- The relaxed squash. Where it goes on, the first width rows are the layer.
+pub record Relaxed (start : ℕ) (k : Counts) (rooms : Rooms) (width : ℕ) (rows ns es : List ℕ) (step : Said) (rows' ns' es' : List ℕ) : Type 0 where
+  pub does : (s : Settings) (d : Diagram) (old_n old_e : List ℕ) → s.width ≡ width → Squashes s d old_n old_e start k rooms rows ns es → Done (relax s rows d) old_n old_e width step rows' ns' es'
+  pub beyond : drop width rows' ≡ drop width rows

@@ -1,180 +1,114 @@
 // `_restrict` and `_relax` of clean.rs: a layer that is too wide loses its last rows, or has them merged into one.
 #![tactic(auto)]
 
-ghost use Rattle.std.specs.Prelude.{◌≡◌, [], ◌∷◌, ◌+◌, ◌-◌, ◌*◌, ◌<◌, ◌≤◌, length, get_or, take, drop};
+ghost use Rattle.std.specs.Prelude.{◌≡◌, [], ◌∷◌, ◌+◌, ◌-◌, ◌*◌, ◌<◌, ◌≤◌, length};
 ghost use Rattle.diagram.specs.Node.{with_deleted, as_relaxed};
 ghost use Rattle.layout.specs.Rows.{node_words};
 ghost use Rattle.rows.specs.Values.{node_of};
+ghost use Rattle.branch.specs.State.{said_of, Same};
 ghost use Rattle.squash.specs.Places.{Placed, RowChanged, Restricted, CapacityMerged, TwinFound};
 ghost use Rattle.squash.specs.Merging.{Sits, EdgesCopied, AllMerged};
 ghost use Rattle.squash.specs.Squashing.{Squashable, RowMade, TwinMerged, NewMerged, Relaxed};
 
-use branch::{Branch, Counts, Rooms, Step};
-use rows::{EdgeId, Link, Node, NodeId};
-
-// A kept row with the merged rows' capacity, or none.
-#[derive(Clone, Copy)]
-enum Twin {
-    At(NodeId),
-    Missing,
-}
-
-// The row that stands at place i of the layer list.
-fn row_at(list: &[usize], i: usize) -> NodeId
-    requires { i < length list.now }
-    ensures { result.0 ≡ get_or list.now i 0 }
-{
-    NodeId(list[i])
-}
-
-fn with_deleted(n: Node, deleted: bool) -> Node
-    ensures { node_of result ≡ with_deleted deleted (node_of n) }
-{
-    let mut changed = n;
-    changed.deleted = deleted;
-    changed
-}
+use branch::{Branch, Diagram};
+use reasons::Refusal;
+use rows::{Node, NodeId};
 
 // Sets or clears the deleted flag of row r.
+#[tactic(auto, using(crate::proofs::Changing::row_changed), unfolding(diagram::specs::Node::with_deleted))]
 fn set_deleted(nodes: &mut [u64], r: NodeId, deleted: bool)
     requires { r.0 * node_words + node_words ≤ length nodes.old }
     ensures { RowChanged (with_deleted deleted) nodes.old r.0 nodes.new }
 {
     let n = rows::read_node(nodes, r);
-    rows::write_node(nodes, r, with_deleted(n, deleted));
+    rows::write_node(nodes, r, Node { deleted, ..n });
 }
 
 // `_restrict`: flags deleted the rows behind the first `width` places. The list stays: its first `width` places are the layer now.
-pub fn restrict(nodes: &mut [u64], list: &[usize], count: usize, width: usize)
-    requires { Placed list.now count nodes.old }
-    ensures { Restricted width count list.now nodes.old nodes.new }
+pub fn restrict(nodes: &mut [u64], layer: &[usize], width: usize)
+    requires { Placed layer.now nodes.old }
+    ensures { Restricted width layer.now nodes.old nodes.new }
 {
-    let mut i = width;
-    while i < count {
-        set_deleted(nodes, row_at(list, i), true);
-        i += 1;
+    for i in width..layer.len() {
+        set_deleted(nodes, NodeId(layer[i]), true);
     }
 }
 
-// The largest capacity of the rows in places from .. count: from the last one down, as the definition does.
-fn merged_capacity(nodes: &[u64], list: &[usize], from: usize, count: usize) -> u64
-    requires { Placed list.now count nodes.now × (from ≤ count) }
-    ensures { CapacityMerged from count list.now nodes.now result }
+// The largest capacity of those rows, 0 if there are none.
+fn merged_capacity(d: &Diagram, rest: &[usize]) -> u64
+    requires { Placed rest.now d.now.nodes.now }
+    ensures { CapacityMerged rest.now d.now.nodes.now result }
 {
     let mut most = 0;
-    let mut i = count;
-    while from < i {
-        i -= 1;
-        most = words::larger(rows::read_capacity(nodes, row_at(list, i)), most);
+    for r in rest {
+        most = rows::read_capacity(d.nodes, NodeId(*r)).max(most);
     }
     most
 }
 
-// The first row in the first `keep` places with that capacity.
-fn twin_of(nodes: &[u64], list: &[usize], keep: usize, capacity: u64) -> Twin
-    requires { Placed list.now keep nodes.now }
-    ensures { TwinFound keep capacity list.now nodes.now result }
+// The first of those rows with that capacity.
+fn twin_of(d: &Diagram, kept: &[usize], capacity: u64) -> Option<NodeId>
+    requires { Placed kept.now d.now.nodes.now }
+    ensures { TwinFound capacity kept.now d.now.nodes.now result }
 {
-    let mut i = 0;
-    loop {
-        if keep <= i {
-            break Twin::Missing;
+    for r in kept {
+        if rows::read_capacity(d.nodes, NodeId(*r)) == capacity {
+            return Some(NodeId(*r));
         }
-        let r = row_at(list, i);
-        if rows::read_capacity(nodes, r) == capacity {
-            break Twin::At(r);
-        }
-        i += 1;
     }
-}
-
-// The edge that a link names.
-fn edge_of(link: Link) -> EdgeId
-    requires { 0 < link.0 }
-    ensures { result.0 ≡ link.0 - 1 }
-{
-    EdgeId((link.0 - 1) as usize)
+    None
 }
 
 // Copies the inbound edges of row `of`, newest first, to the merged row: `foreach!(edge of drop_id, ..)` of clean.rs. Costs stay.
-fn copy_edges(
-    nodes: &mut [u64],
-    edges: &mut [u64],
-    start: usize,
-    k: Counts,
-    rooms: Rooms,
-    merged: NodeId,
-    of: NodeId,
-) -> Step
-    requires { Sits start k rooms merged.0 (of.0 ∷ []) nodes.old edges.old }
-    ensures { EdgesCopied start k rooms merged.0 of.0 nodes.old edges.old result nodes.new edges.new }
+fn copy_edges(d: &mut Diagram, merged: NodeId, of: NodeId) -> Result<(), Refusal>
+    requires { Sits d.old.at.start d.old.at.counts d.old.at.rooms merged.0 (of.0 ∷ []) d.old.nodes.now d.old.edges.now }
+    ensures same { Same d.old.nodes d.new.nodes d.old.edges d.new.edges d.old.at d.new.at }
+    ensures does { EdgesCopied d.old.at.start d.old.at.counts d.old.at.rooms merged.0 of.0 d.old.nodes.now d.old.edges.now (said_of result d.new.at.counts) d.new.nodes.now d.new.edges.now }
 {
-    let m = merged.0;
-    let r = of.0;
-    let row = m - start;
-    let mut counts = k;
-    let mut link = rows::read_node(nodes, NodeId(r)).newest;
-    while 0 < link.0 {
-        let edge = rows::read_edge(edges, edge_of(link));
-        let from = edge.from;
+    let row = merged.0 - d.at.start;
+    let mut link = d.node(of).newest;
+    while let Some(e) = link.edge() {
+        let edge = d.edge(e);
         let b = Branch {
             decision: edge.decision,
             cost: edge.cost,
             capacity: 0,
             depth: 0,
         };
-        let step = branch::append_edge(nodes, edges, start, counts, rooms, from, row, b);
-        let Step::Going(more) = step else {
-            return step;
-        };
-        counts = more;
+        d.append_edge(edge.from, row, b)?;
         link = edge.next;
     }
-    Step::Going(counts)
+    Ok(())
 }
 
-// Merges the rows in places from .. count into the merged row: each is flagged deleted, and its inbound edges are copied.
-fn merge_all(
-    nodes: &mut [u64],
-    edges: &mut [u64],
-    list: &[usize],
-    from: usize,
-    count: usize,
-    start: usize,
-    k: Counts,
-    rooms: Rooms,
-    merged: NodeId,
-) -> Step
-    requires { Sits start k rooms merged.0 (drop from (take count list.now)) nodes.old edges.old × (count ≤ length list.now) }
-    ensures { AllMerged start k rooms merged.0 from count list.now nodes.old edges.old result nodes.new
-        edges.new }
+// Merges the rows of `rest` into the merged row: each is flagged deleted, and its inbound edges are copied.
+fn merge_all(d: &mut Diagram, rest: &[usize], merged: NodeId) -> Result<(), Refusal>
+    requires { Sits d.old.at.start d.old.at.counts d.old.at.rooms merged.0 rest.now d.old.nodes.now d.old.edges.now }
+    ensures same { Same d.old.nodes d.new.nodes d.old.edges d.new.edges d.old.at d.new.at }
+    ensures does { AllMerged d.old.at.start d.old.at.counts d.old.at.rooms merged.0 rest.now d.old.nodes.now d.old.edges.now (said_of result d.new.at.counts) d.new.nodes.now d.new.edges.now }
 {
-    let m = merged.0;
-    let mut counts = k;
-    let mut i = from;
-    while i < count {
-        let r = row_at(list, i);
-        set_deleted(nodes, r, true);
-        let step = copy_edges(nodes, edges, start, counts, rooms, NodeId(m), r);
-        let Step::Going(more) = step else {
-            return step;
-        };
-        counts = more;
-        i += 1;
+    for r in rest {
+        let r = NodeId(*r);
+        set_deleted(d.nodes, r, true);
+        copy_edges(d, merged, r)?;
     }
-    Step::Going(counts)
+    Ok(())
 }
 
 // Relaxed, and so not exact.
+#[tactic(auto, unfolding(diagram::specs::Node::as_relaxed))]
 fn as_relaxed(n: Node) -> Node
     ensures { node_of result ≡ as_relaxed (node_of n) }
 {
-    let mut changed = n;
-    changed.exact = false;
-    changed.relaxed = true;
-    changed
+    Node {
+        exact: false,
+        relaxed: true,
+        ..n
+    }
 }
 
+// Marks row r relaxed. It stays apart from `set_deleted`: handing the change over as a closure would be no plainer at four calls.
+#[tactic(auto, using(crate::proofs::Changing::row_changed))]
 fn set_relaxed(nodes: &mut [u64], r: NodeId)
     requires { r.0 * node_words + node_words ≤ length nodes.old }
     ensures { RowChanged as_relaxed nodes.old r.0 nodes.new }
@@ -184,6 +118,7 @@ fn set_relaxed(nodes: &mut [u64], r: NodeId)
 }
 
 // Writes the merged row as row r, the next: of value i64 minimum, without edges yet.
+#[tactic(auto, using(crate::proofs::News::row_made))]
 fn push_merged(nodes: &mut [u64], r: NodeId, capacity: u64, depth: u64)
     requires { r.0 * node_words + node_words ≤ length nodes.old }
     ensures { RowMade capacity depth nodes.old r.0 nodes.new }
@@ -192,89 +127,56 @@ fn push_merged(nodes: &mut [u64], r: NodeId, capacity: u64, depth: u64)
     rows::write_node(nodes, r, as_relaxed(n));
 }
 
-// Merges the rows in places keep .. count into a kept row with their capacity; the first of them is kept too, where it stands.
-fn merge_into_twin(
-    nodes: &mut [u64],
-    edges: &mut [u64],
-    list: &[usize],
-    keep: usize,
-    count: usize,
-    start: usize,
-    k: Counts,
-    rooms: Rooms,
-    twin: NodeId,
-) -> Step
-    requires { Sits start k rooms twin.0 (drop keep (take count list.now)) nodes.old edges.old × ((keep < count) × (count ≤ length list.now)) }
-    ensures { TwinMerged start k rooms twin.0 keep count list.now nodes.old edges.old result nodes.new
-        edges.new }
+// Merges the rows of `rest` into a kept row with their capacity; the first of them is kept too.
+fn merge_into_twin(d: &mut Diagram, rest: &[usize], twin: NodeId) -> Result<(), Refusal>
+    requires { Sits d.old.at.start d.old.at.counts d.old.at.rooms twin.0 rest.now d.old.nodes.now d.old.edges.now × (0 < length rest.now) }
+    ensures same { Same d.old.nodes d.new.nodes d.old.edges d.new.edges d.old.at d.new.at }
+    ensures does { TwinMerged d.old.at.start d.old.at.counts d.old.at.rooms twin.0 rest.now d.old.nodes.now d.old.edges.now (said_of result d.new.at.counts) d.new.nodes.now d.new.edges.now }
 {
-    set_relaxed(nodes, twin);
-    let step = merge_all(nodes, edges, list, keep, count, start, k, rooms, twin);
-    let Step::Going(counts) = step else {
-        return step;
-    };
-    set_deleted(nodes, row_at(list, keep), false);
-    Step::Going(counts)
+    set_relaxed(d.nodes, twin);
+    merge_all(d, rest, twin)?;
+    set_deleted(d.nodes, NodeId(rest[0]), false);
+    Ok(())
 }
 
-// Merges the rows in places keep .. count into a new row of that capacity, which takes place `keep` of the list.
+// Merges the rows of a layer behind the first `keep` ones into a new row of that capacity, which takes the place of their first.
 fn merge_into_new(
-    nodes: &mut [u64],
-    edges: &mut [u64],
-    list: &mut [usize],
+    d: &mut Diagram,
+    layer: &mut [usize],
     keep: usize,
-    count: usize,
-    start: usize,
-    k: Counts,
-    rooms: Rooms,
     capacity: u64,
-) -> Step
-    requires { Squashable start k rooms keep count list.old nodes.old edges.old }
-    ensures { NewMerged start k rooms capacity keep count list.old nodes.old edges.old result list.new
-        nodes.new edges.new }
+) -> Result<(), Refusal>
+    requires { Squashable d.old.at.start d.old.at.counts d.old.at.rooms keep layer.old d.old.nodes.now d.old.edges.now }
+    ensures same { Same d.old.nodes d.new.nodes d.old.edges d.new.edges d.old.at d.new.at }
+    ensures does { NewMerged d.old.at.start d.old.at.counts d.old.at.rooms capacity keep layer.old d.old.nodes.now d.old.edges.now (said_of result d.new.at.counts) layer.new
+        d.new.nodes.now d.new.edges.now }
 {
-    let n = k.nodes;
-    let e = k.edges;
-    if branch::LAYER_ROOM <= n - start {
-        return Step::Stopped(10, k);
+    let row = d.at.counts.nodes;
+    if row - d.at.start >= branch::LAYER_ROOM {
+        return Err(Refusal::LayerFull);
     }
-    if rooms.nodes <= n {
-        return Step::Stopped(11, k);
+    if row >= d.at.rooms.nodes {
+        return Err(Refusal::NodesFull);
     }
-    let first = rows::read_node(nodes, row_at(list, keep));
-    push_merged(nodes, NodeId(n), capacity, first.depth);
-    let more = Counts {
-        nodes: n + 1,
-        edges: e,
-    };
-    let m = NodeId(n);
-    let step = merge_all(nodes, edges, list, keep, count, start, more, rooms, m);
-    let Step::Going(counts) = step else {
-        return step;
-    };
-    list[keep] = n;
-    Step::Going(counts)
+    let depth = d.node(NodeId(layer[keep])).depth;
+    push_merged(d.nodes, NodeId(row), capacity, depth);
+    d.at.counts.nodes += 1;
+    merge_all(d, &layer[keep..], NodeId(row))?;
+    layer[keep] = row;
+    Ok(())
 }
 
-// `_relax`: keeps the first width - 1 places and merges the rows behind them. Where it goes on, the first `width` places are the layer now.
-pub fn relax(
-    nodes: &mut [u64],
-    edges: &mut [u64],
-    list: &mut [usize],
-    count: usize,
-    width: usize,
-    start: usize,
-    k: Counts,
-    rooms: Rooms,
-) -> Step
-    requires { Squashable start k rooms (width - 1) count list.old nodes.old edges.old × (0 < width) }
-    ensures { Relaxed start k rooms width count list.old nodes.old edges.old result list.new nodes.new
-        edges.new }
+// `_relax`: keeps the first width - 1 rows and merges those behind them. Where it goes on, the first `width` rows are the layer now.
+pub fn relax(d: &mut Diagram, layer: &mut [usize], width: usize) -> Result<(), Refusal>
+    requires { Squashable d.old.at.start d.old.at.counts d.old.at.rooms (width - 1) layer.old d.old.nodes.now d.old.edges.now × (0 < width) }
+    ensures same { Same d.old.nodes d.new.nodes d.old.edges d.new.edges d.old.at d.new.at }
+    ensures does { Relaxed d.old.at.start d.old.at.counts d.old.at.rooms width layer.old d.old.nodes.now d.old.edges.now (said_of result d.new.at.counts) layer.new
+        d.new.nodes.now d.new.edges.now }
 {
-    let keep = width - 1;
-    let capacity = merged_capacity(nodes, list, keep, count);
-    let Twin::At(twin) = twin_of(nodes, list, keep, capacity) else {
-        return merge_into_new(nodes, edges, list, keep, count, start, k, rooms, capacity);
-    };
-    merge_into_twin(nodes, edges, list, keep, count, start, k, rooms, twin)
+    let (kept, rest) = layer.split_at(width - 1);
+    let capacity = merged_capacity(d, rest);
+    match twin_of(d, kept, capacity) {
+        Some(twin) => merge_into_twin(d, rest, twin),
+        None => merge_into_new(d, layer, width - 1, capacity),
+    }
 }

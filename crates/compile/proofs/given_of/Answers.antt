@@ -3,4 +3,4 @@ use Rattle.compile.proofs.Values.{given_made}
 use Rattle.compile.proofs.given_of.Goals as goal
 
 pub returns : goal.returns
-returns c = given_made c.args.q _ _ c.args.record_words c.places_of-places.ensures
+returns c = given_made c.args.q _ _ c.args.record_words c.places_of.ensures

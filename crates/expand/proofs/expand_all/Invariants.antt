@@ -1,15 +1,11 @@
--- `expand::expand_all` meets its contract. The invariant: the first i rows are expanded, or one of them was refused. The measure is what is left of the list.
-use mathlib.Core.Path.{◌≡◌}
-use Prim.Native.Nat.{◌≤◌, ◌-◌}
-use lib.ListN.{length, take}
-use Rattle.branch.specs.declared.Counts.{Counts}
-use Rattle.branch.specs.declared.Step.TheVariants.{Going}
+-- `expand::expand_all` meets its contract. The invariant: the rows before this one are expanded.
+use Rattle.branch.specs.State.{Going, Same}
 use Rattle.expand.proofs.Rounds.{Passed}
 use Rattle.expand.proofs.expand_all.Given as goal
 
-abbrev pub invariant-loop-i : goal.invariant-loop-i
-invariant-loop-i l =
-    (l.i ≤ l.count) × (length l.nodes ≡ length l.initial.nodes) × (length l.edges ≡ length l.initial.edges) × ((k : Counts) → l.initial.step ≡ Going k → Passed l.weights l.profits (take l.count l.list) l.start k l.rooms l.depth l.lower l.initial.nodes l.initial.edges l.i l.step l.nodes l.edges)
-
-abbrev pub decreases-loop-i : goal.decreases-loop-i
-decreases-loop-i l = l.count - l.i
+abbrev pub invariant-loop-row : goal.invariant-loop-row
+invariant-loop-row l =
+    record {
+      same : Same l.initial.d.nodes l.d.nodes l.initial.d.edges l.d.edges l.initial.d.at l.d.at;
+      passed : Passed l.items.weights.now l.items.profits.now l.list l.initial.d.at.start l.initial.d.at.counts l.initial.d.at.rooms l.depth l.lower l.initial.d.nodes.now l.initial.d.edges.now l.row-index (Going l.d.at.counts) l.d.nodes.now l.d.edges.now;
+    }

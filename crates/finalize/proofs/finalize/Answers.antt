@@ -1,5 +1,5 @@
 -- `finalize::finalize` meets its contract: verdict, rows and answer one after the other.
-use Rattle.finalize.proofs.Whole.{judge_asked, rows_asked, answers_asked, finalized}
+use Rattle.finalize.proofs.Whole.{judge_asked, rows_asked, answers_asked}
 use Rattle.finalize.proofs.finalize.Goals as goal
 
 pub judge-judged-requires : goal.judge-judged-requires
@@ -10,6 +10,3 @@ finish_rows-drained-requires c = rows_asked _ _ _ _ _ _ _ _ _ _ c.requires c.jud
 
 pub answers-requires : goal.answers-requires
 answers-requires c = answers_asked _ _ _ _ _ _ _ _ _ _ _ _ _ _ c.judge-judged.ensures c.finish_rows-drained.ensures c.requires
-
-pub returns : goal.returns
-returns c = finalized _ _ _ _ _ _ _ _ _ _ _ _ _ _ c.judge-judged.ensures c.finish_rows-drained.ensures _ c.answers.ensures

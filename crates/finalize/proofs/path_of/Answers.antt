@@ -1,12 +1,6 @@
 -- `finalize::path_of` meets its contract: a law of proofs/Told for each of its two ways out.
-use Rattle.finalize.proofs.Told.{no_path, path_asked, its_path}
+use Rattle.finalize.proofs.Told.{no_path}
 use Rattle.finalize.proofs.path_of.Goals as goal
 
 pub returns-in_default : goal.returns-in_default
 returns-in_default c = no_path _ _ _ _ c.in_default.is
-
-pub best_path-found-requires : goal.best_path-found-requires
-best_path-found-requires c = path_asked _ _ _ _ _ c.in-Node.is c.requires
-
-pub returns : goal.returns
-returns c = its_path _ _ _ _ _ _ c.in-Node.is c.best_path-found.ensures

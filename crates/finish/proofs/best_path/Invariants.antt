@@ -1,11 +1,15 @@
--- `finish::best_path` meets its contract. The invariant: what is written, with what is left above the row, is the path. The measure is the row.
+-- `finish::best_path` climbs from row to smaller row: what is written, with what is left above the row, is the path.
 use lib.ListN.{take}
 use Rattle.finish.specs.Paths.{PathFits}
 use Rattle.finish.proofs.Paths.{Climbed}
 use Rattle.finish.proofs.best_path.Given as goal
 
-abbrev pub invariant-loop-best : goal.invariant-loop-best
-invariant-loop-best l = PathFits l.nodes l.edges l.initial.row (take l.depth l.initial.bytes) × Climbed l.nodes l.edges l.initial.row (take l.depth l.initial.bytes) l.bytes l.len l.row
+abbrev pub invariant-loop-e : goal.invariant-loop-e
+invariant-loop-e l =
+    record {
+      fits : PathFits l.nodes l.edges l.fn.n.0 (take l.fn.depth l.fn.path);
+      climbed : Climbed l.nodes l.edges l.fn.n.0 (take l.fn.depth l.fn.path) l.bytes l.len l.row.0;
+    }
 
-abbrev pub decreases-loop-best : goal.decreases-loop-best
-decreases-loop-best l = l.row
+abbrev pub decreases-loop-e : goal.decreases-loop-e
+decreases-loop-e l = l.row.0

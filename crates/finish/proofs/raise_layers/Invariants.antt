@@ -1,12 +1,6 @@
--- `finish::raise_layers` meets its contract. The invariant: the first i layers are left. The measure is i.
-use mathlib.Core.Path.{◌≡◌}
-use Prim.Native.Nat.{◌≤◌}
-use lib.ListN.{length}
+-- `finish::raise_layers` goes from the newest layer to the oldest: the first i layers are left.
 use Rattle.finish.proofs.Upwards.{LayersUpto}
 use Rattle.finish.proofs.raise_layers.Given as goal
 
 abbrev pub invariant-loop-i : goal.invariant-loop-i
-invariant-loop-i l = (length l.nodes ≡ length l.initial.nodes) × ((l.i ≤ l.layers.count) × LayersUpto l.layers l.i l.initial.nodes l.edges l.nodes)
-
-abbrev pub decreases-loop-i : goal.decreases-loop-i
-decreases-loop-i l = l.i
+invariant-loop-i l = LayersUpto l.layers l.i l.initial.nodes l.edges l.nodes

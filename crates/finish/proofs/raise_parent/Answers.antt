@@ -5,4 +5,4 @@ use Rattle.finish.proofs.raise_parent.Goals as goal
 
 pub returns : goal.returns
 returns c =
-    changed (raise _) _ _ _ _ _ c.read_node-n.ensures (raised_is _ _ _ _ c.marked_with.ensures c.larger-raised.ensures) c.write_node.ensures
+    changed (raise _) _ _ _ _ _ c.read_node-n.ensures (raised_is _ _ _ _ c.marked_with.ensures c.max.ensures) c.write_node.ensures

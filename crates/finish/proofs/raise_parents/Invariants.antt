@@ -1,11 +1,9 @@
--- `finish::raise_parents` meets its contract. The invariant: the edges from the link on are left. The measure is the link, since a next number is the smaller one.
-use mathlib.Core.Path.{◌≡◌}
-use lib.ListN.{length}
+-- `finish::raise_parents` goes from a row's newest inbound edge to older ones: those from the link on are left. A next number is the smaller one.
 use Rattle.finish.proofs.Raising.{Raising}
 use Rattle.finish.proofs.raise_parents.Given as goal
 
-abbrev pub invariant-loop-link : goal.invariant-loop-link
-invariant-loop-link l = (length l.nodes ≡ length l.initial.nodes) × Raising l.own l.initial.link l.initial.nodes l.edges l.link l.nodes
+abbrev pub invariant-loop-e : goal.invariant-loop-e
+invariant-loop-e l = Raising l.own l.initial.link.0 l.initial.nodes l.edges l.link.0 l.nodes
 
-abbrev pub decreases-loop-link : goal.decreases-loop-link
-decreases-loop-link l = l.link
+abbrev pub decreases-loop-e : goal.decreases-loop-e
+decreases-loop-e l = l.link.0

@@ -1,36 +1,44 @@
 -- `grow_layer` meets its contract: order, squash, store and expansion are the definition's step.
-use native.Mathlib.Omega.{arith}
-use Rattle.grow.proofs.Turning.{start_low, count_few, rows_in, if_squashable, expandable, turned_stopped, turned_on}
+use mathlib.Core.Path.{sym}
+use Rattle.std.proofs.lemmas.Result.{err_from_is_err_and}
+use Rattle.grow.proofs.Turning.{count_in, lent, rows_fit, spared_expandable, turned_spared}
+use Rattle.grow.proofs.Turning.{to_squash, turned_stopped, lent_width, wide_expandable, turned_on}
 use Rattle.grow.proofs.grow_layer.Goals as goal
 
-pub overflow_sub-count : goal.overflow_sub-count
-overflow_sub-count c = start_low _ _ _ _ _ _ _ _ _ _ _ _ c.requires.stage
+pub slice_bounds-layer-end : goal.slice_bounds-layer-end
+slice_bounds-layer-end c = count_in _ _ _ _ _ _ _ _ c.requires.turn
+
+pub slice_bounds-layer-length : goal.slice_bounds-layer-length
+slice_bounds-layer-length c = sym (lent _ _ _ _ _ _ _ _ c.requires.turn)
 
 pub order_layer-requires : goal.order_layer-requires
-order_layer-requires c =
-    let T = c.requires in
-    (omega (arith, T.places, count_few _ _ _ _ _ _ _ _ _ _ _ _ T.stage), rows_in _ _ _ _ _ _ _ _ _ _ _ _ T.stage)
+order_layer-requires c = rows_fit _ _ _ _ _ _ _ _ c.requires.turn
 
-pub squash_if_needed-squashed-requires : goal.squash_if_needed-squashed-requires
-squash_if_needed-squashed-requires c =
-    let T = c.requires in
-    if_squashable _ _ _ _ _ _ _ _ _ _ _ _ T.stage _ c.order_layer.ensures _ c.too_wide-wide.ensures T.some_width (omega (arith, T.places, c.order_layer.auto.list))
+pub expand_layer-requires-clause-expandable : goal.expand_layer-requires-clause-expandable
+expand_layer-requires-clause-expandable c =
+    spared_expandable _ _ _ _ _ _ _ _ c.requires.turn _ c.order_layer.ensures _ c.too_wide.ensures c.if-not-too_wide.true c.args.items.limits
 
-pub returns-in_default : goal.returns-in_default
-returns-in_default c =
-    turned_stopped _ _ _ _ _ _ _ _ _ c.order_layer.ensures _ c.too_wide-wide.ensures _ _ _ _ c.squash_if_needed-squashed.ensures _ _ c.in_default.is
+pub returns-then-not-too_wide-clause-does : goal.returns-then-not-too_wide-clause-does
+returns-then-not-too_wide-clause-does c =
+    turned_spared _ _ _ _ _ _ _ _ c.requires.turn _ c.order_layer.ensures _ c.too_wide.ensures c.if-not-too_wide.true _ _ _ c.expand_layer.ensures.does
 
-pub last_after-named-requires : goal.last_after-named-requires
-last_after-named-requires c =
-    let T = c.requires in
-    (T.stage.shape.sized, T.stage.shape.few)
+pub squash-requires : goal.squash-requires
+squash-requires c =
+    to_squash _ _ _ _ _ _ _ _ c.requires.turn _ c.order_layer.ensures _ c.too_wide.ensures c.if-not-too_wide.false _ c.requires.rooms
 
-pub expand_layer-requires : goal.expand_layer-requires
-expand_layer-requires c =
-    let T = c.requires in
-    expandable _ _ _ _ _ _ _ _ _ _ _ _ T.stage _ c.order_layer.ensures _ c.too_wide-wide.ensures _ _ _ _ c.squash_if_needed-squashed.ensures T.some_room _ c.in-Going.is _ c.left_of-left.ensures T.limits T.deep (omega (arith, T.places, c.order_layer.auto.list, c.squash_if_needed-squashed.auto.list))
+pub returns-in_err-squash-clause-does : goal.returns-in_err-squash-clause-does
+returns-in_err-squash-clause-does c =
+    let p = err_from_is_err_and c.from_residual.result c.from_residual.ensures.1 in
+    rw (p.1, p.2) (turned_stopped _ _ _ _ _ _ _ _ c.requires.turn _ c.order_layer.ensures _ c.too_wide.ensures c.if-not-too_wide.false _ c.requires.rooms _ _ _ _ _ c.in_err-squash.ensures.does)
 
-pub returns : goal.returns
-returns c =
-    let T = c.requires in
-    turned_on _ _ _ _ _ _ _ _ _ c.order_layer.ensures _ c.too_wide-wide.ensures _ _ _ _ c.squash_if_needed-squashed.ensures T.some_room _ c.in-Going.is _ c.left_of-left.ensures _ c.last_after-named.ensures _ _ _ c.expand_layer.ensures
+pub slice_bounds-expand_layer-end : goal.slice_bounds-expand_layer-end
+slice_bounds-expand_layer-end c =
+    lent_width _ _ _ _ _ _ _ _ c.requires.turn _ c.order_layer.ensures _ c.too_wide.ensures c.if-not-too_wide.false _ c.requires.rooms _ _ _ _ c.in_ok-squash.ensures.does c.squash.auto.layer
+
+pub expand_layer-requires-2-clause-expandable : goal.expand_layer-requires-2-clause-expandable
+expand_layer-requires-2-clause-expandable c =
+    wide_expandable _ _ _ _ _ _ _ _ c.requires.turn _ c.order_layer.ensures _ c.too_wide.ensures c.if-not-too_wide.false _ c.requires.rooms _ _ _ _ c.in_ok-squash.ensures.does c.squash.auto.layer _ c.in_ok-squash.ensures.same.stays.start_is _ c.args.items.limits
+
+pub returns-clause-does : goal.returns-clause-does
+returns-clause-does c =
+    turned_on _ _ _ _ _ _ _ _ c.requires.turn _ c.order_layer.ensures _ c.too_wide.ensures c.if-not-too_wide.false _ c.requires.rooms _ _ _ _ c.in_ok-squash.ensures.does c.squash.auto.layer _ c.in_ok-squash.ensures.same.stays.start_is _ c.name_last-s.ensures _ _ _ c.expand_layer-2.ensures.does

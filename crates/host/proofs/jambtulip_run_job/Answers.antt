@@ -1,19 +1,14 @@
--- `jambtulip_run_job` meets its contract: what was read is run, and the answer shown of how the run ends.
-use Rattle.records.specs.Structs.{places}
-use Rattle.pick_steps.specs.Tried.{held_in}
-use Rattle.job.proofs.Steps.{writable}
+-- `jambtulip_run_job` meets its contract: the run's answer is shown, and the number returned is of how the run ends.
+use Rattle.std.proofs.Common.{sym, ap, ◌∙◌}
+use Rattle.reasons.specs.Numbers.{numbered}
+use Rattle.border.specs.Border.{number_of}
 use Rattle.host.proofs.Kept.{runs_for}
 use Rattle.host.proofs.jambtulip_run_job.Goals as goal
 
-pub answer_of-output-requires : goal.answer_of-output-requires
-answer_of-output-requires c =
-    let h = held_in (places c.args.list.now) c.args.nodes.now c.args.edges.now c.args.scratch.now in
-    let after = held_in (places c.run_if-ended.new.list) c.run_if-ended.new.nodes c.run_if-ended.new.edges c.run_if-ended.new.scratch in
-    writable c.read-read.result h c.run_if-ended.result after c.run_if-ended.ensures
+pub returns-in-Ok : goal.returns-in-Ok
+returns-in-Ok c =
+    runs_for _ _ _ _ c.run_text-ran.ensures.runs _ c.written.ensures _ c.from.ensures _ (sym (ap (λ r. number_of (numbered r)) c.in-Ok.is))
 
-pub returns : goal.returns
-returns c =
-    let h = held_in (places c.args.list.now) c.args.nodes.now c.args.edges.now c.args.scratch.now in
-    let after = held_in (places c.run_if-ended.new.list) c.run_if-ended.new.nodes c.run_if-ended.new.edges c.run_if-ended.new.scratch in
-    runs_for c.args.text.now h c.read-read.result c.read-read.ensures c.run_if-ended.result after c.run_if-ended.ensures c.answer_of-output.result c.answer_of-output.ensures
-    c.shown_of-shown.result c.shown_of-shown.ensures c.pick_number.result c.pick_number.ensures
+pub returns-in-Err : goal.returns-in-Err
+returns-in-Err c =
+    runs_for _ _ _ _ c.run_text-ran.ensures.runs _ c.written.ensures _ c.from.ensures _ (c.number.ensures ∙ sym (ap (λ r. number_of (numbered r)) c.in-Err.is))

@@ -1,22 +1,17 @@
 -- `numbers::push` meets its contract: each of its tests is one of the definition's.
-use mathlib.Core.Path.{◌≡◌, sym, ap, ◌∙◌}
-use mathlib.Core.Option.{some}
-use Prim.Native.Nat.{◌+◌, ◌-◌, ◌*◌}
-use native.Mathlib.Omega.{arith}
-use Rattle.numbers.proofs.Pushing.{push_digit, push_below, push_above, push_large}
+use Rattle.std.proofs.Common.{◌≤◌, sym, arith}
+use Rattle.numbers.proofs.Pushing.{push_below, push_above, push_large, push_more}
 use Rattle.numbers.proofs.push.Goals as goal
 
-pub returns-then-byte-lt48 : goal.returns-then-byte-lt48
-returns-then-byte-lt48 c = sym (push_below c.args.value c.args.byte (omega arith))
+pub returns-then-not-matches : goal.returns-then-not-matches
+returns-then-not-matches c = grind (arith, push_below, push_above)
 
-pub returns-then-byte-gt57 : goal.returns-then-byte-gt57
-returns-then-byte-gt57 c = sym (push_above c.args.value c.args.byte (omega arith))
-
-pub returns-then-digit-value : goal.returns-then-digit-value
-returns-then-digit-value c = sym (push_large c.args.value c.args.byte (omega arith))
+pub returns-in_err-checked_mul : goal.returns-in_err-checked_mul
+returns-in_err-checked_mul c =
+    rw c.from_residual.ensures (sym (push_large c.args.value c.args.byte (omega (arith, c.in_err-checked_mul.ensures))))
 
 pub returns : goal.returns
-returns c = let value = c.args.value in
-    let byte = c.args.byte in
-    let digit : c.wide-digit.result ≡ byte - 48 = c.wide-digit.ensures in
-    ap (λ d. some (value * 10 + d)) digit ∙ sym (push_digit value byte (omega arith) (omega arith) (omega arith))
+returns c =
+    let low : 48 ≤ c.args.byte = grind arith in
+    let high : c.args.byte ≤ 57 = grind arith in
+    push_more _ _ _ _ _ low high c.from-digit.ensures c.in_ok-checked_mul.ensures.1 c.checked_add.ensures

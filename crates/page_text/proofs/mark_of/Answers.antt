@@ -1,26 +1,16 @@
--- `mark_of` meets its contract. The invariant: item d is taken by the bytes that are left if by any.
-use native.Mathlib.Omega.{arith}
-use mathlib.Core.Path.{refl}
-use Rattle.page_text.proofs.Taking.{taken_here, taken_later, taken_by_none}
+-- `mark_of` meets its contract: `any` tells whether some byte takes the item.
+use Rattle.std.proofs.Common.{cond, Bool, eqb, sym, ap, ◌∙◌, ◌+◌, ◌*◌, rules, tests}
+use Rattle.std.proofs.lemmas.Iterator.{YieldsList-from_slice}
+use Rattle.std.proofs.lemmas.Iterator.Search.{any_from_yields_List}
+use Rattle.page_text.proofs.Taking.{taken_by_any}
 use Rattle.page_text.proofs.mark_of.Goals as goal
 
-pub loop-i-init : goal.loop-i-init
-loop-i-init c = (omega arith, refl)
+pub returns-then-is_taken : goal.returns-then-is_taken
+returns-then-is_taken c =
+    let told = any_from_yields_List (λ b. eqb b (2 * c.args.d + 1)) _ _ c.any-is_taken.result c.any-is_taken.ensures.ran (YieldsList-from_slice c.args.path.now cc) (λ x b q k. search (rules, tests)) in
+    ap (λ (b : Bool). cond b 1 0) (sym c.if-is_taken.true ∙ told ∙ taken_by_any c.args.d c.args.path.now)
 
-pub returns-then-path-i : goal.returns-then-path-i
-returns-then-path-i c =
-    let a = c.args in
-    let l = c.loop-i in
-    taken_here a.path.now a.d l.i c.loop-i-test.true c.if-path-i.true l.invariant.1
-
-pub loop-i-preserved : goal.loop-i-preserved
-loop-i-preserved c =
-    let a = c.args in
-    let l = c.loop-i in
-    (omega arith, taken_later a.path.now a.d l.i c.loop-i-test.true c.if-path-i.false l.invariant.1)
-
-pub returns : goal.returns
-returns c =
-    let a = c.args in
-    let l = c.loop-i in
-    taken_by_none a.path.now a.d l.i c.loop-i-test.false l.invariant.1
+pub returns-else-is_taken : goal.returns-else-is_taken
+returns-else-is_taken c =
+    let told = any_from_yields_List (λ b. eqb b (2 * c.args.d + 1)) _ _ c.any-is_taken.result c.any-is_taken.ensures.ran (YieldsList-from_slice c.args.path.now cc) (λ x b q k. search (rules, tests)) in
+    ap (λ (b : Bool). cond b 1 0) (sym c.if-is_taken.false ∙ told ∙ taken_by_any c.args.d c.args.path.now)

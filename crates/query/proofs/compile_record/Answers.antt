@@ -6,4 +6,4 @@ use Rattle.query.proofs.compile_record.Goals as goal
 pub returns : goal.returns
 returns c =
     let long : length c.args.q.root.path ≡ 64 = search rules in
-    answers_asked c.args.q _ _ c.request_in-request.ensures c.path_length-k.ensures long _ _ _ _ _ _ _ c.compile.ensures
+    answers_asked c.args.q _ _ c.request_in.ensures c.path_length.ensures long _ _ _ _ _ _ _ c.compile.ensures

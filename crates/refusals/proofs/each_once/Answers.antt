@@ -1,24 +1,12 @@
--- `refusals::each_once` meets its contract. The invariant: the answer for the items left is the answer for all below the depth.
-use Prim.Native.Nat.{◌-◌}
-use mathlib.Core.Path.{refl, ◌∙◌}
-use native.Mathlib.Omega.{arith}
-use Rattle.refusals.proofs.Lists.{once_here, not_once, once_none}
+-- `refusals::each_once` meets its contract: what `all` answers of the items below the depth is the definition's test.
+use Rattle.std.proofs.Common.{eqb, ◌∙◌, arith, rules, tests}
+use Rattle.std.proofs.lemmas.Iterator.{YieldsList-from_range}
+use Rattle.std.proofs.lemmas.Iterator.Search.{all_from_yields_List}
+use Rattle.calls.specs.Rows.{namings}
+use Rattle.refusals.proofs.Lists.{all_once}
 use Rattle.refusals.proofs.each_once.Goals as goal
 
-pub loop-item-init : goal.loop-item-init
-loop-item-init c = refl
-
-pub returns-then-namings-ne1 : goal.returns-then-namings-ne1
-returns-then-namings-ne1 c = not_once c.loop-item.item (c.loop-item.item - 1) _
-    (omega (arith, c.loop-item-test.true))
-    (omega (arith, c.namings.ensures, c.if-namings-ne1.true))
-    ∙ c.loop-item.invariant
-
-pub loop-item-preserved : goal.loop-item-preserved
-loop-item-preserved c = once_here c.loop-item.item (c.loop-item.item - 1) _
-    (omega (arith, c.loop-item-test.true))
-    (omega (arith, c.namings.ensures, c.if-namings-ne1.false))
-    ∙ c.loop-item.invariant
-
 pub returns : goal.returns
-returns c = once_none _ _ c.loop-item-test.false ∙ c.loop-item.invariant
+returns c =
+    all_from_yields_List (λ k. eqb (namings k c.args.path.now) 1) _ _ _ c.all.ensures.ran (YieldsList-from_range 0 c.args.depth c.args.depth (cc) (omega arith)) (λ x b q k. search (rules, tests))
+    ∙ all_once c.args.depth c.args.path.now

@@ -1,20 +1,15 @@
--- `refusals::namings` meets its contract. The invariant: the count and the namings of the rest are those of the whole path.
-use native.Mathlib.Omega.{arith}
-use Rattle.refusals.proofs.Lists.{namings_turn, namings_done, namings_limit}
+-- `refusals::namings` meets its contract: what `count` answers is the definition's number.
+use Rattle.std.proofs.Common.{eqb, sym, ◌∙◌, rules, tests}
+use Rattle.std.proofs.lemmas.Iterator.{YieldsList-from_slice}
+use Rattle.std.proofs.lemmas.Iterator.Consumers.{count_from_yields_List, YieldsList-from_filter}
+use Rattle.std.proofs.lemmas.List.Sums.{length-filter}
+use Rattle.knapsack.specs.Items.{item_of}
+use Rattle.refusals.proofs.Lists.{namings_count}
 use Rattle.refusals.proofs.namings.Goals as goal
 
-pub overflow_add-count : goal.overflow_add-count
-overflow_add-count c = omega (
-  arith,
-  namings_turn c.args.item c.args.path.now c.loop-i.i c.loop-i-test.true,
-  namings_limit c.args.item c.args.path.now,
-)
-
-pub loop-i-preserved : goal.loop-i-preserved
-loop-i-preserved c = omega (
-  arith,
-  namings_turn c.args.item c.args.path.now c.loop-i.i c.loop-i-test.true,
-)
-
 pub returns : goal.returns
-returns c = omega (arith, namings_done c.args.item c.args.path.now c.loop-i.i c.loop-i-test.false)
+returns c =
+    let path = c.args.path.now in
+    count_from_yields_List c.filter.result _ c.count.ensures.ran (YieldsList-from_filter _ (λ b. eqb (item_of b) c.args.item) (YieldsList-from_slice path cc) c.filter.ensures.closure (λ x b q k. search (rules, tests)))
+    ∙ length-filter (λ b. eqb (item_of b) c.args.item) path
+    ∙ sym (namings_count c.args.item path)

@@ -10,9 +10,9 @@ use Rattle.search.proofs.record_verdict.Goals as goal
 
 pub returns-then-r-gt64 : goal.returns-then-r-gt64
 unfolding place_from given_at
-returns-then-r-gt64 c width = too_deep _ _ (omega (arith, c.if-r-gt64.true, c.requires.few))
+returns-then-r-gt64 c width = too_deep _ _ (omega (arith, c.if-r-gt64.true, c.args.items.limits.few))
 
 pub returns : goal.returns
 returns c width =
     let value_fits : FitsSigned w64 c.args.r.value = search rules in
-    record_told (problem_of c.args.weights.now c.args.profits.now c.args.page width) c.args.r _ _ (to_z-of_z value_fits) (c.record_refusal.ensures width c.args.r.bound)
+    record_told (problem_of c.args.items.weights.now c.args.items.profits.now c.args.page width) c.args.r _ _ (to_z-of_z value_fits) (c.record_refusal.ensures width c.args.r.bound)

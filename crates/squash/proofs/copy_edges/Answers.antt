@@ -1,54 +1,38 @@
--- `copy_edges` meets its contract. The loop: the edges left are those of the row below the link; the measure is the link, as next numbers fall.
+-- `copy_edges` meets its contract. The loop: one edge more is copied, or the edge table has no room for it.
 use mathlib.Core.Path.{refl}
-use native.Mathlib.Omega.{arith}
-use Rattle.squash.proofs.Copying.{copy_reads_row, copy_start, copy_done, copy_reads_edge, copy_appends, copy_less, copy_turn, copy_stop, at_link}
+use Rattle.std.proofs.lemmas.Result.{err_from_is_err_and}
+use Rattle.branch.proofs.Same.{same_self, same_then}
+use Rattle.squash.proofs.Copying.{copy_reads_row, copy_start, copy_done, copy_reads_edge, copy_appends, copy_less, copy_turn, copy_stop}
 use Rattle.squash.proofs.copy_edges.Goals as goal
 
-pub overflow_sub-row : goal.overflow_sub-row
-overflow_sub-row c =
-    let g = c.requires.merges in
-    omega (arith, g.stands.first_is, g.mergeable.merged_above)
+pub node-requires : goal.node-requires
+node-requires c = copy_reads_row _ _ _ _ _ _ _ c.requires
 
-pub read_node-requires : goal.read_node-requires
-read_node-requires c = copy_reads_row _ _ _ _ _ _ _ c.requires
+pub loop-e-init : goal.loop-e-init
+loop-e-init c = (same_self _ _ _, copy_start _ _ _ _ _ _ _ _ c.node.ensures)
 
-pub loop-link-init : goal.loop-link-init
-loop-link-init c = (refl, refl, copy_start _ _ _ _ _ _ _ _ c.read_node.ensures)
+pub edge-edge-requires : goal.edge-edge-requires
+edge-edge-requires c = copy_reads_edge _ _ _ _ _ _ _ _ _ _ _ c.loop-e.invariant.1 c.requires _ c.in-Some.ensures
 
-pub edge_of-requires : goal.edge_of-requires
-edge_of-requires c = c.loop-link-test.true
+pub append_edge-requires : goal.append_edge-requires
+append_edge-requires c =
+    rw c.loop-e.invariant.0.stays.start_is (copy_appends _ _ _ _ _ _ _ _ _ _ _ c.loop-e.invariant.1 c.requires _ c.in-Some.ensures _ c.edge-edge.ensures)
 
-pub read_edge-edge-requires : goal.read_edge-edge-requires
-read_edge-edge-requires c =
-    let L = c.loop-link in
-    omega (arith, c.edge_of.ensures, copy_reads_edge _ _ _ _ _ _ _ _ _ _ _ L.invariant.2 c.requires c.loop-link-test.true)
+pub returns-in_err-append_edge-clause-does : goal.returns-in_err-append_edge-clause-does
+returns-in_err-append_edge-clause-does c =
+    let p = err_from_is_err_and c.from_residual.result c.from_residual.ensures.1 in
+    let s = c.loop-e.invariant.0.stays in
+    rw (p.1, p.2) (copy_stop _ _ _ _ _ _ _ _ _ _ _ c.loop-e.invariant.1 _ c.in-Some.ensures _ c.edge-edge.ensures _ refl refl _ _ _ (rw (s.start_is, s.rooms_are) at c.in_err-append_edge.ensures.does) _ _ refl)
 
-pub append_edge-step-requires : goal.append_edge-step-requires
-append_edge-step-requires c =
-    let L = c.loop-link in
-    let read = at_link c.edge_of.ensures c.read_edge-edge.ensures in
-    copy_appends _ _ _ _ _ _ _ _ _ _ _ L.invariant.2 c.requires c.loop-link-test.true _ read
+pub loop-e-smaller : goal.loop-e-smaller
+loop-e-smaller c = copy_less _ _ _ _ _ _ _ _ _ _ _ c.loop-e.invariant.1 c.requires _ c.in-Some.ensures _ c.edge-edge.ensures
 
-pub returns-in_default : goal.returns-in_default
-returns-in_default c =
-    let L = c.loop-link in
-    let read = at_link c.edge_of.ensures c.read_edge-edge.ensures in
-    copy_stop _ _ _ _ _ _ _ _ _ _ _ L.invariant.2 c.loop-link-test.true _ read _ refl refl _ _ _ c.append_edge-step.ensures _ _ c.in_default.is
-
-pub loop-link-smaller : goal.loop-link-smaller
-loop-link-smaller c =
-    let L = c.loop-link in
-    let read = at_link c.edge_of.ensures c.read_edge-edge.ensures in
-    copy_less _ _ _ _ _ _ _ _ _ _ _ L.invariant.2 c.requires c.loop-link-test.true _ read
-
-pub loop-link-preserved : goal.loop-link-preserved
-loop-link-preserved c =
-    let L = c.loop-link in
-    let read = at_link c.edge_of.ensures c.read_edge-edge.ensures in (
-      omega (arith, c.append_edge-step.auto.nodes, L.invariant.0),
-      omega (arith, c.append_edge-step.auto.edges, L.invariant.1),
-      copy_turn _ _ _ _ _ _ _ _ _ _ _ L.invariant.2 c.loop-link-test.true _ read _ refl refl _ _ _ c.append_edge-step.ensures _ c.in-Going.is,
+pub loop-e-preserved : goal.loop-e-preserved
+loop-e-preserved c =
+    let s = c.loop-e.invariant.0.stays in (
+      same_then c.loop-e.invariant.0 c.in_ok-append_edge.ensures.same,
+      copy_turn _ _ _ _ _ _ _ _ _ _ _ c.loop-e.invariant.1 _ c.in-Some.ensures _ c.edge-edge.ensures _ refl refl _ _ _ (rw (s.start_is, s.rooms_are) at c.in_ok-append_edge.ensures.does) _ refl,
     )
 
-pub returns : goal.returns
-returns c = copy_done _ _ _ _ _ _ _ _ _ _ _ c.loop-link.invariant.2 c.loop-link-test.false
+pub returns-clause-does : goal.returns-clause-does
+returns-clause-does c = copy_done _ _ _ _ _ _ _ _ _ _ _ c.loop-e.invariant.1 c.in_default.ensures

@@ -1,11 +1,12 @@
--- `copy_edges` meets its contract. The loop: the edges left are those of the row below the link; the measure is the link, as next numbers fall.
-use mathlib.Core.Path.{◌≡◌}
-use lib.ListN.{length}
+-- `copy_edges` meets its contract. The invariant: the edges left are those of the row below the link; the measure is the link, as next numbers fall.
+use Rattle.branch.specs.State.{Same}
 use Rattle.squash.proofs.Copying.{CopyTurn}
 use Rattle.squash.proofs.copy_edges.Given as goal
 
-abbrev pub invariant-loop-link : goal.invariant-loop-link
-invariant-loop-link l = (length l.nodes ≡ length l.initial.nodes) × (length l.edges ≡ length l.initial.edges) × CopyTurn l.start l.initial.counts l.rooms l.m l.r l.initial.nodes l.initial.edges l.counts l.link.0 l.nodes l.edges
+abbrev pub invariant-loop-e : goal.invariant-loop-e
+invariant-loop-e l =
+    Same l.fn.d.nodes l.d.nodes l.fn.d.edges l.d.edges l.fn.d.at l.d.at
+    × CopyTurn l.fn.d.at.start l.fn.d.at.counts l.fn.d.at.rooms l.fn.merged.0 l.fn.of.0 l.fn.d.nodes.now l.fn.d.edges.now l.d.at.counts l.link.0 l.d.nodes.now l.d.edges.now
 
-abbrev pub decreases-loop-link : goal.decreases-loop-link
-decreases-loop-link l = l.link.0
+abbrev pub decreases-loop-e : goal.decreases-loop-e
+decreases-loop-e l = l.link.0

@@ -1,12 +1,9 @@
--- `merge_all` meets its contract. The loop: the rows left, merged into the tables as they are, give the whole merge.
-use mathlib.Core.Path.{◌≡◌}
-use Prim.Native.Nat.{◌-◌, ◌≤◌}
-use lib.ListN.{length}
+-- `merge_all` meets its contract. The invariant: merging the rows left into the tables as they are gives the whole merge.
+use Rattle.branch.specs.State.{Same}
 use Rattle.squash.proofs.Absorbing.{MergeTurn}
 use Rattle.squash.proofs.merge_all.Given as goal
 
-abbrev pub invariant-loop-i : goal.invariant-loop-i
-invariant-loop-i l = (l.from ≤ l.i) × (length l.nodes ≡ length l.initial.nodes) × (length l.edges ≡ length l.initial.edges) × MergeTurn l.start l.initial.counts l.rooms l.m l.from l.count l.list l.initial.nodes l.initial.edges l.counts l.i l.nodes l.edges
-
-abbrev pub decreases-loop-i : goal.decreases-loop-i
-decreases-loop-i l = l.count - l.i
+abbrev pub invariant-loop-r : goal.invariant-loop-r
+invariant-loop-r l =
+    Same l.fn.d.nodes l.d.nodes l.fn.d.edges l.d.edges l.fn.d.at l.d.at
+    × MergeTurn l.fn.d.at.start l.fn.d.at.counts l.fn.d.at.rooms l.fn.merged.0 l.fn.rest l.fn.d.nodes.now l.fn.d.edges.now l.d.at.counts l.r-index l.d.nodes.now l.d.edges.now

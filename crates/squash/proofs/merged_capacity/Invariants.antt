@@ -1,10 +1,6 @@
--- `merged_capacity` meets its contract. The loop: the largest capacity so far is that of the places from i on.
-use Prim.Native.Nat.{◌≤◌}
-use Rattle.squash.specs.Places.{CapacityMerged}
+-- `merged_capacity` meets its contract. The invariant: the larger of the largest capacity so far and the rest's is that of all rows.
+use Rattle.squash.proofs.Scanning.{Most}
 use Rattle.squash.proofs.merged_capacity.Given as goal
 
-abbrev pub invariant-loop-i : goal.invariant-loop-i
-invariant-loop-i l = (l.i ≤ l.count) × (l.from ≤ l.i) × CapacityMerged l.i l.count l.list l.nodes l.most
-
-abbrev pub decreases-loop-i : goal.decreases-loop-i
-decreases-loop-i l = l.i
+abbrev pub invariant-loop-r : goal.invariant-loop-r
+invariant-loop-r l = Most l.rest l.d.nodes.now l.r-index l.most

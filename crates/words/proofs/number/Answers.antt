@@ -1,10 +1,11 @@
--- `words::number` meets its contract: each branch's cast gives the number of the word.
+-- `words::number` meets its contract: what is left of the sum in 64 bits is the sum, on either side of 2^63.
+use mathlib.Core.Path.{◌∙◌}
 use native.Mathlib.Omega.{arith}
-use Rattle.words.proofs.Border.{number_natural, number_negative}
+use mir.Syntax.{w64}
+use mir.ValLaws.{to_z-of_z}
+use Rattle.words.proofs.Border.{number_wraps}
 use Rattle.words.proofs.number.Goals as goal
 
-pub returns-then-w-ge-MID : goal.returns-then-w-ge-MID
-returns-then-w-ge-MID c = number_natural _ (omega arith) c.if-w-ge-MID.true
-
-pub returns-else-w-ge-MID : goal.returns-else-w-ge-MID
-returns-else-w-ge-MID c = number_negative _ c.if-w-ge-MID.false
+pub returns : goal.returns
+returns c = let r = c.wrapping_add_unsigned in
+    to_z-of_z w64 r.result (record { sfits = r.type_inv }) ∙ r.ensures ∙ number_wraps c.args.w (omega arith)

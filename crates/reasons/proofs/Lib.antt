@@ -1,0 +1,2 @@
+-- Laws of the reasons' numbers.
+pub mod Numbers

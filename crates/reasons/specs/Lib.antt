@@ -1,0 +1,2 @@
+-- The numbers of the reasons.
+pub mod Numbers
