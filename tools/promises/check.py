@@ -24,7 +24,7 @@ FIGURES = {
 STARRED = "crates/diagram/specs/Starred.antt"
 EDITS = ["crates/*/must-fail/{}.edit", "tools/mutate/edits/*/{}.edit"]
 NOTHING = "Text that promises nothing"
-DEFINED = r'(?m)^\s*(?:(?:abbrev|unfoldable|pub|extern "C"|record|data|fn|struct|enum)\s+)*{}(?=[\s:(])'
+DEFINED = r'(?m)^\s*(?:(?:abbrev|unfoldable|pub|extern "C"|record|data|fn|struct|enum)\s+)*{}(?=[\s:(<])'
 faults = []
 
 
