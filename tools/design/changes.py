@@ -64,6 +64,33 @@ def definitions(top):
     return found
 
 
+def inner(top):
+    """Each statement of proofs/ that is public inside a module with parameters, behind these, by crate, file and name."""
+    found = {}
+    for f in sorted(pathlib.Path(top).glob("crates/*/proofs/*.antt")):
+        modules, lines = [], f.read_text().split("\n")
+        for at, line in enumerate(lines):
+            indent, text = len(line) - len(line.lstrip(" ")), line.strip()
+            if not text or text.startswith("--"):
+                continue
+            while modules and modules[-1][0] >= indent:
+                modules.pop()
+            module = re.match(r"(?:pub )?module \S+ ?(.*?) ?where$", text)
+            if module:
+                modules.append((indent, module.group(1)))
+                continue
+            said = re.match(r"(?:(?:abbrev|unfoldable) )?pub (?:record |data )?([^\s:]+)", text)
+            if not modules or not said or said.group(1) in ("mod", "use", "ruleset", "module"):
+                continue
+            block = [text]
+            for more in lines[at + 1:]:
+                if not more.strip() or len(more) - len(more.lstrip(" ")) <= indent:
+                    break
+                block.append(more)
+            found[(f.relative_to(top).parts[1], f.stem, said.group(1))] = squeeze("\n".join([given for _, given in modules] + block))
+    return found
+
+
 old, new = sys.argv[1], sys.argv[2]
 old_functions, old_types = heads(old)
 new_functions, new_types = heads(new)
@@ -93,3 +120,4 @@ else:
     was, now = definitions(old), definitions(new)
     table("Definitions and statements of specs/", {k: v for k, v in was.items() if k[1] == "specs"}, {k: v for k, v in now.items() if k[1] == "specs"}, lambda a, b: True)
     table("Laws and theorems of proofs/", {k: v for k, v in was.items() if k[1] == "proofs"}, {k: v for k, v in now.items() if k[1] == "proofs"}, lambda a, b: True)
+    table("Laws in modules with parameters, in proofs/", inner(old), inner(new), lambda a, b: True)

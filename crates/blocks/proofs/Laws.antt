@@ -1,8 +1,8 @@
 -- The fast bound of the items from d on, as a loop over the pairs of their weights and profits adds it up.
-use Rattle.std.proofs.Common.{ℕ, ◌≡◌, ◌+◌, ◌≤◌, ◌<◌, cond, leb, List, length, get_or, drop, refl, sym, ap, ◌∙◌, arith, length-drop}
+use Rattle.std.proofs.Common.{ℕ, ◌≡◌, ◌+◌, ◌≤◌, ◌<◌, cond, leb, min, List, length, get_or, drop, refl, sym, ap, ◌∙◌, arith, length-drop}
 use Rattle.std.proofs.Math.ListN.{drop_of_length-le}
 use Rattle.std.specs.List.{zip}
-use Rattle.std.proofs.lemmas.List.{get_or-drop, get_or_read}
+use Rattle.std.proofs.lemmas.List.{drop_min, get_or-drop, get_or_read}
 use Rattle.std.proofs.lemmas.Slice.Zip.{length-zip, get_or-zip}
 use borrow.Author.Tests.{le-leb, lt-leb}
 use Rattle.knapsack.specs.Items.{items_of, counted}
@@ -17,12 +17,18 @@ module _ (ws ps : List ℕ) (limits : InLimits ws ps) (capacity : ℕ) where
   bound_from d h = rw (items_from ws ps d limits.paired h)
 
   -- the pair that a loop from item d on has behind k others
-  module _ (d k w p : ℕ) (t : (k < length (drop d (zip ws ps))) × (◌≡◌ {A = ℕ × ℕ} (w, p) (get_or (drop d (zip ws ps)) k (w, p)))) where
+  module _ (d k w p : ℕ) (t : (k < length (zip (drop d ws) (drop d ps))) × (◌≡◌ {A = ℕ × ℕ} (w, p) (get_or (zip (drop d ws) (drop d ps)) k (w, p)))) where
+    in_weights : k < length (drop d ws)
+    in_weights = omega (arith, t.0, length-zip (drop d ws) (drop d ps))
+
+    in_profits : k < length (drop d ps)
+    in_profits = omega (arith, t.0, length-zip (drop d ws) (drop d ps))
+
     within : d + k < length ws
-    within = omega (arith, t.0, length-drop d (zip ws ps), length-zip ws ps, limits.paired)
+    within = omega (arith, in_weights, length-drop d ws)
 
     pair : ◌≡◌ {A = ℕ × ℕ} (w, p) (get_or ws (d + k) w, get_or ps (d + k) p)
-    pair = t.1 ∙ get_or-drop d (zip ws ps) k (w, p) ∙ get_or-zip ws ps (d + k) (w, p) within (omega (arith, within, limits.paired))
+    pair = t.1 ∙ get_or-zip (drop d ws) (drop d ps) k (w, p) in_weights in_profits ∙ rw (get_or-drop d ws k w, get_or-drop d ps k p) refl
 
     weight : get_or ws (d + k) 0 ≡ w
     weight = sym (get_or_read ws (d + k) w within (ap (λ (x : ℕ × ℕ). x.0) pair) 0)
@@ -38,9 +44,15 @@ module _ (ws ps : List ℕ) (limits : InLimits ws ps) (capacity : ℕ) where
     fits_not h = let e : d + (k + 1) ≡ d + k + 1 = omega arith in
         sym (bound_from (d + k) within ∙ rw (weight, lt-leb (counted w) capacity h, e) (omega arith))
 
-  pub bound_done : (d k : ℕ) → k ≡ length (drop d (zip ws ps)) → fast_bound (drop (d + k) (items_of ws ps)) capacity ≡ 0
+  -- behind the last item there is as little left as behind all items
+  pub bound_begun : (d from : ℕ) → from ≡ min d (length ws) → fast_bound (drop (from + 0) (items_of ws ps)) capacity ≡ fast_bound (drop d (items_of ws ps)) capacity
+  bound_begun d from e =
+      let at : from + 0 ≡ min d (length (items_of ws ps)) = omega (arith, e, length_items ws ps limits.paired) in
+      ap (λ n. fast_bound (drop n (items_of ws ps)) capacity) at ∙ ap (λ left. fast_bound left capacity) (drop_min d (items_of ws ps))
+
+  pub bound_done : (d k : ℕ) → k ≡ length (zip (drop d ws) (drop d ps)) → fast_bound (drop (d + k) (items_of ws ps)) capacity ≡ 0
   bound_done d k e =
-      let l : length (items_of ws ps) ≤ d + k = omega (arith, length_items ws ps limits.paired, length-drop d (zip ws ps), length-zip ws ps, limits.paired) in
+      let l : length (items_of ws ps) ≤ d + k = omega (arith, length_items ws ps limits.paired, length-drop d ws, length-drop d ps, length-zip (drop d ws) (drop d ps), limits.paired) in
       rw (drop_of_length-le (items_of ws ps) {i = d + k} l) (fast_bound_none_left capacity)
 
   pub bound_limit : (d : ℕ) → fast_bound (drop d (items_of ws ps)) capacity ≤ 64000000

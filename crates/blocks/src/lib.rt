@@ -51,8 +51,9 @@ impl Items<'_> {
         ensures value { result ≡ fast_bound (drop depth (items_of self.entry.weights.now self.entry.profits.now)) capacity }
         ensures within { result ≤ 64000000 }
     {
+        let from = depth.min(self.weights.len());
         let mut sum = 0;
-        for (weight, profit) in self.weights.iter().zip(self.profits).skip(depth) {
+        for (weight, profit) in self.weights[from..].iter().zip(&self.profits[from..]) {
             if counted(*weight) <= capacity {
                 sum += *profit;
             }

@@ -1,12 +1,13 @@
 // What crosses the border to a C or Rust host: structs of plain numbers, what a host's numbers ask, and what it reads of each answer.
 #![tactic(auto)]
 
-ghost use Rattle.std.specs.Prelude.{◌≡◌};
+ghost use Rattle.std.specs.Prelude.{◌≡◌, map};
 ghost use Rattle.border.specs.Border.{kind_in, mode_in, ask_in, query_in, search_in, host_search_of, found_in, nothing_found, shown_of};
 
 use compile::Compiled;
 use cutset::Kind;
 use grow::Mode;
+use layers::Layer;
 use page_text::Output;
 use query::Query;
 use records::Record;
@@ -122,14 +123,27 @@ impl From<Question> for Query {
     }
 }
 
+// The layers' first rows, and the rows behind their last, each at its layer's index. By a loop: two `map`s took some 37 instructions a place.
+#[tactic(auto, using(crate::proofs::Arrays::columns))]
+fn columns(rows: [Layer; layers::MOST]) -> ([usize; 65], [usize; 65])
+    ensures from { result.0 ≡ map (λ l. l.from) rows }
+    ensures to { result.1 ≡ map (λ l. l.to) rows }
+{
+    let mut from = [0; 65];
+    let mut to = [0; 65];
+    for i in 0..65 {
+        from[i] = rows[i].from;
+        to[i] = rows[i].to;
+    }
+    (from, to)
+}
+
 // What an accepted compile found, as a host reads it.
 impl From<Compiled> for Found {
     ghost from_gives = { λ c f. f ≡ found_in c };
 
     fn from(c: Compiled) -> Found {
-        let rows = c.layers.rows;
-        let from = rows.map(|layer| layer.from);
-        let to = rows.map(|layer| layer.to);
+        let (from, to) = columns(c.layers.rows);
         let path = c.path;
         let exact_path = c.exact_path;
         Found {

@@ -4,4 +4,5 @@ pub mod Refused
 pub mod Twice
 pub mod Calls
 pub mod Demand2
+pub mod Layers
 pub mod Job

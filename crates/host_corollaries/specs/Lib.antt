@@ -2,6 +2,7 @@
 pub mod Calls
 pub mod Demand2
 pub mod Job
+pub mod Layers
 pub mod Numbers
 pub mod Refused
 pub mod Twice

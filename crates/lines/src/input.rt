@@ -1,7 +1,8 @@
 // Numbers of a request, from standard input: decimal, each with one space or line end behind it. What was read ahead stands in a buffer.
-ghost use Rattle.std.specs.Prelude.{◌≤◌};
+ghost use Rattle.std.specs.Prelude.{◌≡◌, ⊤};
 
 use crate::at_most;
+use std::alloc::AllocError;
 use std::io::Read;
 
 // Why the reading stops: at the input's end, or at text that is no request.
@@ -11,15 +12,25 @@ pub enum Stop {
     Broken,
 }
 
-// The program's standard input, and where its reading stands: the bytes from `at` to `end` are yet to be taken.
-#[derive(Drop)]
+// The program's standard input, and where its reading stands: the buffer's bytes from `at` to `end` are yet to be taken. Any place is
+// taken: where no such byte is in the buffer it is filled anew. A copy goes on from the same place, with the bytes that were read ahead.
 pub struct Input<'a, R> {
     rt: &'a R,
-    bytes: [u8; 65536],
-    at: usize,
-    end: usize,
-    ghost at_most_end: { at ≤ end },
-    ghost end_in_bytes: { end ≤ 65536 },
+    pub bytes: [u8; 65536],
+    pub at: usize,
+    pub end: usize,
+}
+
+impl<'a, R> Copy for Input<'a, R> {}
+
+impl<'a, R> Clone for Input<'a, R> {
+    ghost is_clone = { λ x y. y ≡ x };
+
+    ghost is_infallible = { λ _. ⊤ };
+
+    fn clone(&self) -> Result<Self, AllocError> {
+        Ok(*self)
+    }
 }
 
 impl<'a, R: std::io::Input> Input<'a, R> {
@@ -35,7 +46,7 @@ impl<'a, R: std::io::Input> Input<'a, R> {
 
     // The next byte. Where all are taken the buffer is filled anew; a read that fails counts as the input's end.
     fn next_byte(&mut self) -> Option<u8> {
-        if self.at == self.end {
+        if self.at >= self.end || self.at >= self.bytes.len() {
             let n = self.rt.reader().read(&mut self.bytes).unwrap_or(0);
             self.at = 0;
             self.end = n;

@@ -1,13 +1,19 @@
 // Numbers of an answer, to standard output: decimal, parted by spaces, each answer a line. What isn't written out yet stands in a buffer.
-ghost use Rattle.std.specs.Prelude.{◌≡◌, ◌<◌, ◌≤◌};
+ghost use Rattle.std.specs.Prelude.{◌≡◌, ◌<◌};
 
-// The program's standard output. The buffer's first `at` bytes aren't written out yet.
+// The program's standard output. The buffer's first `at` bytes aren't written out yet; any number is taken, and past the buffer there is nothing to write.
 #[derive(Drop)]
 pub struct Output<'a, R> {
     rt: &'a R,
-    bytes: [u8; 65536],
-    at: usize,
-    ghost at_in_bytes: { at ≤ 65536 },
+    pub bytes: [u8; 65536],
+    pub at: usize,
+}
+
+// Writes the first `at` of these bytes out, if there are so many. What can't be written is lost.
+pub fn write_first<R: Print>(rt: &R, bytes: &[u8], at: usize) {
+    if at <= bytes.len() {
+        let _ = rt.write_all(&bytes[..at]);
+    }
 }
 
 impl<'a, R: Print> Output<'a, R> {
@@ -24,7 +30,7 @@ impl<'a, R: Print> Output<'a, R> {
     pub fn flush(&mut self)
         ensures { self.new.at ≡ 0 }
     {
-        let _ = self.rt.write_all(&self.bytes[..self.at]);
+        write_first(self.rt, &self.bytes, self.at);
         self.at = 0;
     }
 
@@ -54,7 +60,7 @@ impl<'a, R: Print> Output<'a, R> {
 
     // The answer's end: the space behind its last number becomes a line end.
     pub fn end_line(&mut self) {
-        if 0 < self.at {
+        if 0 < self.at && self.at <= self.bytes.len() {
             self.bytes[self.at - 1] = b'\n';
         }
     }

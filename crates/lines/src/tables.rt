@@ -13,26 +13,28 @@ pub fn first_words(table: &mut [u64], count: u64) -> &mut [u64]
     &mut table[..n]
 }
 
-// Word i of a table's old contents: start + i * step, modulo 2^64.
-fn old_word(start: u64, step: u64, i: usize) -> u64 {
-    start.wrapping_add(step.wrapping_mul(i as u64))
-}
-
-// Old contents of a lent table.
+// Old contents of a lent table: word i is start + i * step, modulo 2^64. A running sum: a product for each word took longer.
 pub fn fill(table: &mut [u64], start: u64, step: u64) {
-    for (i, word) in table.iter_mut().enumerate() {
-        *word = old_word(start, step, i);
+    let mut old = start;
+    for word in table {
+        *word = old;
+        old = old.wrapping_add(step);
     }
 }
 
-// How many words there are up to the last that isn't as before.
+// How many words there are up to the last that isn't as before. From the first word on, for the same reason.
 fn changed(table: &[u64], start: u64, step: u64) -> usize
     ensures { IsPrefixLen result table.now }
 {
-    (0..table.len())
-        .rev()
-        .find(|i| table[*i] != old_word(start, step, *i))
-        .map_or(0, |i| i + 1)
+    let mut old = start;
+    let mut last = 0;
+    for (i, word) in table.iter().enumerate() {
+        if *word != old {
+            last = i + 1;
+        }
+        old = old.wrapping_add(step);
+    }
+    last
 }
 
 // A table after the call: the number of words up to the last that changed, and these words.
@@ -40,6 +42,20 @@ fn put_table<R: Print>(output: &mut Output<R>, table: &[u64], start: u64, step: 
     let count = changed(table, start, step);
     output.put(count as u64);
     output.put_all(&table[..count]);
+}
+
+// The three tables after a call that began with old contents of this request's.
+pub fn put_tables<R: Print>(
+    output: &mut Output<R>,
+    nodes: &[u64],
+    edges: &[u64],
+    records: &[u64],
+    head: &[u64; 19],
+) {
+    let step = head[18];
+    put_table(output, nodes, head[15], step);
+    put_table(output, edges, head[16], step);
+    put_table(output, records, head[17], step);
 }
 
 // The tables that a request lends.
@@ -61,9 +77,6 @@ impl Tables<'_> {
 
     // The three after the call.
     pub fn put<R: Print>(&self, output: &mut Output<R>, head: &[u64; 19]) {
-        let step = head[18];
-        put_table(output, self.nodes, head[15], step);
-        put_table(output, self.edges, head[16], step);
-        put_table(output, self.records, head[17], step);
+        put_tables(output, self.nodes, self.edges, self.records, head);
     }
 }

@@ -7,4 +7,4 @@ use Rattle.blocks.proofs.Items.fast_upper_bound.Given as goal
 abbrev pub invariant-loop-weight : goal.invariant-loop-weight
 invariant-loop-weight l =
     let items = items_of l.self.weights.now l.self.profits.now in
-    l.sum + fast_bound (drop (l.depth + length l.yielded) items) l.capacity ≡ fast_bound (drop l.depth items) l.capacity
+    l.sum + fast_bound (drop (l.from + length l.yielded) items) l.capacity ≡ fast_bound (drop l.depth items) l.capacity

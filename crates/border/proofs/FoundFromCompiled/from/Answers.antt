@@ -1,15 +1,11 @@
 -- What an accepted compile found meets its contract: each array of numbers has a number of each stored layer, in order.
 use Rattle.std.proofs.Common.{refl, rules, is_some, w64, FitsSigned}
 use Rattle.std.proofs.Math.Facts.{to_z-of_z}
-use Rattle.layers.specs.Layer.{no_layer}
-use Rattle.border.proofs.Arrays.{numbers_of, flag_byte}
+use Rattle.border.proofs.Arrays.{flag_byte}
 use Rattle.border.proofs.FoundFromCompiled.from.Goals as goal
 
 pub returns : goal.returns
 returns c =
-    let rows = c.args.c.layers.rows in
-    let starts = numbers_of (λ l. l.from) rows c.map-from.result c.args.c.layers.sized c.map-from.ensures.items.long (λ i h. let at = (c.map-from.ensures.items.at i no_layer 0 h).2.met in search rules) in
-    let ends = numbers_of (λ l. l.to) rows c.map-to.result c.args.c.layers.sized c.map-to.ensures.items.long (λ i h. let at = (c.map-to.ensures.items.at i no_layer 0 h).2.met in search rules) in
     let fits : FitsSigned w64 c.unwrap_or.result = search rules in
     let fits-2 : FitsSigned w64 c.unwrap_or-2.result = search rules in
-    rw (starts, ends, to_z-of_z fits, to_z-of_z fits-2, c.from.ensures, c.from-2.ensures, c.from-3.ensures, c.is_some.ensures, c.is_some-2.ensures, c.unwrap_or.ensures, c.unwrap_or-2.ensures, flag_byte c.args.c.exact, flag_byte (is_some c.args.c.best), flag_byte (is_some c.args.c.best_exact)) refl
+    rw (c.columns.ensures.from, c.columns.ensures.to, to_z-of_z fits, to_z-of_z fits-2, c.from.ensures, c.from-2.ensures, c.from-3.ensures, c.is_some.ensures, c.is_some-2.ensures, c.unwrap_or.ensures, c.unwrap_or-2.ensures, flag_byte c.args.c.exact, flag_byte (is_some c.args.c.best), flag_byte (is_some c.args.c.best_exact)) refl
